@@ -9,8 +9,10 @@ pub mod Followers
 pub mod PathClasses
 pub mod Lacking
 pub mod Leading
+pub mod Staying
 pub mod Rules
 pub mod Events
+pub mod Taking
 pub mod Giving
 pub mod Kept
 pub mod Arguments

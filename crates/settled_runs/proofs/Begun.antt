@@ -8,7 +8,7 @@ use Rattle.machine_state.specs.State.{Step, Run, Ask, State, Activation, Body}
 use Rattle.machine_rules.{specs.Good.{ArgumentsFit, EmissionFits, of_living, of_dead, TopFits}, specs.Rules.{begun}, specs.There.{IsMember}, proofs.Dying.{lives-not-dead}, proofs.Fields.{member-method}, proofs.Keeps.{class-of-lives}}
 use Rattle.settling.specs.{declared.certificate.SettlingLine.{SettlingLine}, declared.certificate.SettlingCertificate.{SettlingCertificate}, Valid.{IsLineOf, IsValid}}
 use Rattle.object_machine.proofs.CheckedRuns.{Invariant.{IsStepOf, asks, IsCovered}, Nodes.{body-named}}
-use Rattle.settled_runs.proofs.Staying.{left-runs}
+use Rattle.object_machine.proofs.CheckedRuns.Staying.{left-runs}
 use Rattle.settled_runs.{specs.Levels.{Level}, specs.Written.{HaveWritten}, proofs.Pushing.{Begins}, proofs.Invariant.{Stacked, Holds}}
 
 module _ {p : Loaded} {certificate : SettlingCertificate} (sound : IsSound p) (valid : IsValid p certificate) (cost : ℕ → ℕ) (classes : ℕ → Option ℕ) where

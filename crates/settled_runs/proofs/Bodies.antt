@@ -11,9 +11,13 @@ use Rattle.machine_state.specs.{State.{Step, Run, Act, State, Activation, Body},
 use Rattle.machine_rules.{specs.Good.{IsWell as IsGiven}, specs.Natives.{NativeAnswers}, specs.Operations.{Operation, Write, Begin, Choose, Connect, Disconnect, Delete, Schedule, TakeAnswer, Nothing, operation_of_step}, specs.Destroying.{deleting}, specs.Rules.{Begins as Starts, BodyRule, Does}, specs.Settling.{Writes}, specs.There.{HasField, IsDead}, proofs.Differing.{differ-spared}, proofs.Doing.{step-of}, proofs.Keeps.{class-of-lives}}
 use Rattle.settling.specs.{declared.certificate.SettlingLine.{SettlingLine}, declared.certificate.SettlingCertificate.{SettlingCertificate}, Sets.{IsIn, AreTogether}, Hands.{HandOn}, Valid.{IsLineOf, IsValid}}
 use Rattle.object_machine.proofs.CheckedRuns.{Invariant.{IsStepOf, BodyStands, DestroyStands}, Worlds.{SparedIn}}
-use Rattle.settled_runs.proofs.Led.{Draws, leads-drawn, does-led}
-use Rattle.settled_runs.proofs.Staying.{left-runs, left-acts, steps-append, body-with, spared-as, begun-objects, Stays, linked-stays, unlinked-stays}
-use Rattle.settled_runs.{specs.Writes.{IsAtNode, IsLineAt, IsNoHigher}, specs.Levels.{Carried, Level, AreCosts, FallsTo, IsWell}, specs.Written.{HaveWritten}, proofs.Edges.{one-node, line-at, line-after}, proofs.Memberships.{edge-cases, exits, destroy-falls, source-above}, proofs.Pushing.{StandsIn, free, bound, CarriesFirst, left-by, begins-over, update-outside}, proofs.Invariant.{MethodStands, DeletionStands, Stacked}, proofs.Begun.{Covered, Held, fits-begun, begun-held}, proofs.Deleting.{schedule-held}, proofs.Dying.{seen-again}, proofs.Carrying.{KeepsPlaces, places-same, places-died, schedule-died}, proofs.Writing.{write-held, write-stays, write-places}, proofs.Stacks.{levels-of}, proofs.Stepping.{GivesJust, hands-drawn, first-of, does-with, gives-just}, proofs.Within.{within-places, within-held}}
+use Rattle.object_machine.proofs.CheckedRuns.Leading.{Draws, leads-drawn, does-led}
+use Rattle.object_machine.proofs.CheckedRuns.Staying.{left-runs, left-acts, steps-append, body-with, spared-as, begun-objects, Stays, linked-stays, unlinked-stays}
+use Rattle.settled_runs.{specs.Writes.{IsAtNode, IsLineAt, IsNoHigher}, specs.Levels.{Carried, Level, AreCosts, FallsTo, IsWell}, specs.Written.{HasWritten, HaveWritten}, proofs.Edges.{one-node, line-at, line-after}, proofs.Memberships.{edge-cases, exits, destroy-falls, source-above}, proofs.Pushing.{StandsIn, free, bound, CarriesFirst, left-by, begins-over, update-outside}, proofs.Invariant.{MethodStands, DeletionStands, Stacked}, proofs.Begun.{Covered, Held, fits-begun, begun-held}, proofs.Deleting.{schedule-held}, proofs.Dying.{seen-again}, proofs.Carrying.{KeepsPlaces, places-same, places-died, schedule-died}, proofs.Writing.{write-held, write-stays, write-places}, proofs.Stacks.{levels-of}, proofs.Stepping.{GivesJust, hands-drawn, first-of, does-with, gives-just}, proofs.Within.{within-places, within-held}}
+
+-- a level that wrote nothing has nothing that must stay
+none-written : (objects : List Object) {certificate : SettlingCertificate} (level : Level certificate) → level.wrote ≡ None → HasWritten objects level
+none-written objects level alone c q within wrote = absurd (none-some q (sym alone ∙ wrote))
 
 module _ {p : Loaded} {certificate : SettlingCertificate} (sound : IsSound p) (valid : IsValid p certificate) (cost : ℕ → ℕ) (costs : AreCosts p certificate cost) (classes : ℕ → Option ℕ) where
   -- what is kept, every object that has a body there is spared, and places of the sets of these levels keep what they have, or
@@ -155,7 +159,7 @@ module _ {p : Loaded} {certificate : SettlingCertificate} (sound : IsSound p) (v
             covered = covered;
             levels = up.level ∷ level ∷ levels;
             stacked = (deletion, up.well, up.falls_to, stands);
-            written = (λ c q within wrote. absurd (none-some q (sym up.alone ∙ wrote)), written);
+            written = (none-written s.objects up.level up.alone, written);
           },
           λ k body gone. gone,
           places-same p classes (level ∷ levels) s.objects s.objects refl,

@@ -1,10 +1,10 @@
 -- No chain of bindings leads back to where it began: ranks fall along each (docs/settling-proof.md, "Edges").
 use Rattle.std.proofs.Common.{◌≡◌, ℕ, ◌<◌, Option, Some, ap, arith}
 use Rattle.meta_model.specs.{Loaded.{Loaded}, Sound.{IsSound}}
-use Rattle.binding_graph.specs.{declared.binding.Binding.{Binding}, declared.place.Place.{Place}, Bindings.{Reads, Chain, Loop, direct, further}}
+use Rattle.binding_graph.specs.{declared.binding.Binding.{Binding}, declared.place.Place.{Place}, Bindings.{Reads, Chain, direct, further}}
 use Rattle.effect_scan.specs.Edges.{by_site}
 use Rattle.settling.specs.{declared.certificate.SettlingLine.{SettlingLine}, declared.certificate.SettlingCertificate.{SettlingCertificate}, Valid.{IsValid}}
-use Rattle.object_machine.proofs.CheckedRuns.Invariant.{IsSited}
+use Rattle.object_machine.proofs.CheckedRuns.{Invariant.{IsSited}, Sites.{ChainsEnd}}
 use Rattle.settled_runs.{specs.Writes.{IsLineAt, IsDrawn}, proofs.Edges.{one-line, line-at, site-falls, line-before, line-after}, proofs.Drawn.{drawn}}
 
 module _ {p : Loaded} {certificate : SettlingCertificate} (sound : IsSound p) (valid : IsValid p certificate) where
@@ -44,7 +44,7 @@ module _ {p : Loaded} {certificate : SettlingCertificate} (sound : IsSound p) (v
         let low = last.rank in
         record { above = first.above; is_above = first.is_above; below = last.below; is_below = last.is_below; rank = omega (arith, high, low, same) }
 
-  pub chains-end : (classes : ℕ → Option ℕ) (G : Place → Option Binding) → ((q : Place) (b : Binding) → G q ≡ Some b → IsSited p classes b × (b.target ≡ q)) → ¬ Loop G
+  pub chains-end : ChainsEnd p
   chains-end classes G sited loop =
       let round = chain-falls classes G sited loop.0 loop.0 loop.1 in
       let same = ap (λ (l : SettlingLine). l.rank) (one-at classes G sited loop.0 round.above round.below round.is_above round.is_below) in

@@ -8,15 +8,14 @@ use Rattle.script_lang.specs.declared.event.Event.{Event}
 use Rattle.meta_model.specs.{Loaded.{Loaded}, Sound.{IsSound}}
 use Rattle.object_tree.specs.{Seen.{seen}, Typed.{AreTyped}}
 use Rattle.effect_scan.specs.{declared.node.Node.{Node}, declared.node.Member.TheVariants.{Method, Property}, Nodes.{node, named}}
-use Rattle.binding_graph.specs.{Bindings.{binding_at, without, replaced}}
-use Rattle.prop_bindings.specs.Fits.{Agree}
 use Rattle.rank_check.proofs.Elements.{place_of}
 use Rattle.trace_entries.specs.{declared.fault.Fault.{Fault}}
 use Rattle.machine_state.specs.State.{State, Activation, Body, Emit, Update, Destroy}
-use Rattle.machine_rules.{specs.Natives.{NativeAnswers}, specs.Operations.{Write}, specs.Faults.{WritesDeep}, proofs.Doing.{Doing, doing}, proofs.Dying.{lives-not-dead}, proofs.Keeps.{lives-of-class}, proofs.Lists.{all-filtered, all-snoc}}
+use Rattle.machine_rules.{specs.Natives.{NativeAnswers}, specs.Operations.{Write}, specs.Faults.{WritesDeep}, proofs.Doing.{Doing, doing}, proofs.Dying.{lives-not-dead}, proofs.Keeps.{lives-of-class}}
 use Rattle.settling.specs.{declared.certificate.SettlingCertificate.{SettlingCertificate}, Levels.{StacksAreShallow}, Sets.{IsIn}, Valid.{IsValid}}
-use Rattle.object_machine.{specs.Causes.{Brings, StopsFor, spent, short as of_memory, brings, lacks_value, writes_ill, binds_ill, goes_ill, goes_fatal, binds_loop, writes_deep, goes_deep}, specs.Causes.{BindsLoop}, specs.Checked.{no_rule, no_memory}, proofs.CheckedRuns.{Invariant.{AreClasses, IsSited}, Nodes.{body-named}, Rules.{bound-by}}}
-use Rattle.settled_runs.proofs.{Led.{leads-drawn, does-led}, Staying.{Covered}, Coming.{binding-sited}}
+use Rattle.object_machine.{specs.Causes.{Brings, StopsFor, spent, short as of_memory, brings, lacks_value, writes_ill, binds_ill, goes_ill, goes_fatal, binds_loop, writes_deep, goes_deep}, specs.Checked.{no_rule, no_memory}, proofs.CheckedRuns.{Invariant.{AreClasses}, Nodes.{body-named}, Kept.{loops-none}}}
+use Rattle.object_machine.proofs.CheckedRuns.Leading.{leads-drawn, does-led}
+use Rattle.object_machine.proofs.CheckedRuns.Staying.{Covered}
 use Rattle.settled_runs.{specs.Levels.{Carried, Level, AreCosts, AreLevels, IsPlaceIn}, specs.Claims.{most_deep, EachIsShallow, MayStop, limit, ill, too_deep, StopsForFew, IsActive, CarriesOne, EachCarriesOne, ChangesToCarried, EachChangesToCarried}, proofs.Chains.{chains-end}, proofs.Depth.{levels-shallow}, proofs.Edges.{set-costs, line-after}, proofs.Invariant.{MethodStands, Stands, Stacked, Holds}, proofs.Memberships.{source-above}, proofs.OneValue.{carry-one}, proofs.Pushing.{StandsIn, free, bound, update-outside}, proofs.Stacks.{levels-of, as-many, no-deeper}, proofs.Carrying.{KeepsPlaces}, proofs.Steps.{Kept, followed, places-kept, run-kept}}
 
 module _ {p : Loaded} {certificate : SettlingCertificate} (sound : IsSound p) (valid : IsValid p certificate) (cost : ℕ → ℕ) (costs : AreCosts p certificate cost) where
@@ -43,17 +42,6 @@ module _ {p : Loaded} {certificate : SettlingCertificate} (sound : IsSound p) (v
           let many = as-many p cost classes s.objects (Body n.object n.method n.arguments (n.step ∷ n.rest) ∷ n.below) (level ∷ levels) st in
           let count = ap (λ (l : List Activation). length l) n.is_next in
           omega (arith, low, many, count)
-
-  -- ---- bindings
-
-  -- an expression of a binding that may be installed isn't among what it leads to
-  pub loops-none : (s : State) {next : List Event} (classes : ℕ → Option ℕ) → Covered p classes s → Agree p s.objects s.bindings → ¬ BindsLoop p s next
-  loops-none s classes covered agree loops =
-      let b = loops.binding in
-      let asked = loops.next in
-      let sited = binding-sited sound s asked.idle classes covered agree asked.site asked.target asked.sources b asked.may in
-      let all = all-snoc (IsSited p classes) (without b.target s.bindings) b (all-filtered (IsSited p classes) _ s.bindings covered.sited) sited in
-      chains-end sound valid classes (binding_at (replaced s.bindings b)) (λ q z e. bound-by (IsSited p classes) (replaced s.bindings b) all q z e) loops.closes
 
   -- ---- values
 
@@ -146,7 +134,7 @@ module _ (shallow : StacksAreShallow) (natives : NativeAnswers) {p : Loaded} {ce
   by-brought (binds_ill x) = ill refl
   by-brought (goes_ill x) = ill refl
   by-brought (goes_fatal g) = absurd (g.fatal (followed sound valid cost costs natives {s = s} {t = g.t} kept g.well g.follows).spared)
-  by-brought (binds_loop loop) = absurd (loops-none sound valid cost costs s kept.classes (kept.held).covered ((kept.up).sound).agree loop)
+  by-brought (binds_loop loop) = absurd (loops-none sound (chains-end sound valid) s kept.classes (kept.held).covered ((kept.up).sound).agree loop)
   by-brought (writes_deep w) =
       let room = writes-room sound valid cost costs shallow kept.held ((kept.up).sound).agree.typed w in
       let deep = w.deep in

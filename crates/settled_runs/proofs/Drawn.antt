@@ -11,7 +11,7 @@ use Rattle.binding_graph.specs.declared.place.Place.{Place}
 use Rattle.binding_graph.specs.Bindings.{Reads, binding_at}
 use Rattle.object_machine.proofs.CheckedRuns.Invariant.{IsSited}
 use Rattle.object_machine.proofs.CheckedRuns.Sites.{reads-lead}
-use Rattle.object_machine.proofs.CheckedRuns.Rules.{bound-by}
+use Rattle.object_machine.proofs.CheckedRuns.Staying.{bound-by}
 use Rattle.settled_runs.specs.Writes.{IsAtNode, IsDrawn}
 
 -- only a site leads from a property to a property

@@ -10,7 +10,7 @@ use Rattle.machine_state.{specs.Connections.{next_used}, specs.State.{State, Act
 use Rattle.machine_rules.{specs.Good.{IsWell as IsGiven}, specs.Rules.{EmitRule, UpdateRule, NotifiesIf, Arrives, with_used}, proofs.Dying.{lives-not-dead}, proofs.Keeps.{class-of-lives}}
 use Rattle.settling.specs.{declared.certificate.SettlingLine.{SettlingLine}, declared.certificate.SettlingCertificate.{SettlingCertificate}, Sets.{IsIn}, Valid.{IsLineOf, IsValid}}
 use Rattle.object_machine.proofs.CheckedRuns.{Invariant.{EmitStands, IsWired}, Nodes.{late-named, named-again}}
-use Rattle.settled_runs.proofs.Staying.{not-queued}
+use Rattle.object_machine.proofs.CheckedRuns.Staying.{not-queued}
 use Rattle.settled_runs.{specs.Writes.{IsAtNode}, specs.Levels.{Carried, Level, AreCosts, FallsTo, IsWell}, specs.Written.{HaveWritten}, proofs.Edges.{line-before, line-after, one-node}, proofs.Pushing.{bound, CarriesFirst, Begins, begins-over, begins-apart}, proofs.Invariant.{MethodStands, IsFollower, IsWrittenIn, UpdateStands, outside, wrote, Stacked}, proofs.Begun.{Covered, Held, fits-begun, signal-held, begun-held}}
 
 -- the first of some that are taken is the first

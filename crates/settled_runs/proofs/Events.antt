@@ -12,8 +12,8 @@ use Rattle.machine_state.specs.{Accepting.{accepted}, State.{State, IsIdle, Acti
 use Rattle.machine_rules.{specs.Good.{IsWell as IsGiven}, specs.Destroying.{deleting}, specs.Rules.{Begins}, specs.Settling.{Writes, Installs}, specs.There.{HasField}, proofs.Keeps.{class-of-lives}, proofs.Lists.{all-append, all-filtered, all-snoc}}
 use Rattle.settling.specs.{declared.certificate.SettlingLine.{SettlingLine}, declared.certificate.SettlingCertificate.{SettlingCertificate}, Valid.{IsLineOf, IsValid}}
 use Rattle.object_machine.{specs.Takes.{Takes, accepts, refuses}, proofs.CheckedRuns.{Invariant.{IsSited}, Followers.{IsKnown}, Nodes.{named-node, property-node, end-node}}}
-use Rattle.settled_runs.proofs.Coming.{Comes, rests, sets, binds, begins, deletes, event-comes}
-use Rattle.settled_runs.proofs.Staying.{still-sited, known-targets, same-count}
+use Rattle.object_machine.proofs.CheckedRuns.Events.{Comes, rests, sets, binds, begins, deletes, event-comes}
+use Rattle.object_machine.proofs.CheckedRuns.Staying.{still-sited, known-targets, same-count}
 use Rattle.settled_runs.{specs.Writes.{IsAtNode, IsLineAt, IsNoHigher}, specs.Levels.{Level, AreCosts}, proofs.Edges.{one-line, line-at}, proofs.Pushing.{begins-first}, proofs.Invariant.{Stacked, Holds}, proofs.Begun.{Covered, Held, fits-begun, begun-held}, proofs.Settling.{outside-held}, proofs.Writing.{known-once, first-write-held}}
 
 module _ {p : Loaded} {certificate : SettlingCertificate} (sound : IsSound p) (valid : IsValid p certificate) (cost : ℕ → ℕ) (costs : AreCosts p certificate cost) where

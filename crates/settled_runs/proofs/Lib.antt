@@ -9,9 +9,6 @@ pub mod Memberships
 pub mod Pushing
 pub mod Invariant
 pub mod Drawn
-pub mod Staying
-pub mod Led
-pub mod Coming
 pub mod Stacks
 pub mod Begun
 pub mod Emitting
@@ -28,3 +25,4 @@ pub mod Events
 pub mod Chains
 pub mod Steps
 pub mod Claims
+pub mod Faultless

@@ -5,7 +5,7 @@ use Rattle.prop_bindings.specs.Fits.{Agree}
 use Rattle.machine_state.specs.{Connections.{next_used}, State.{State, Activation, Body, Emit, Update, Destroy}}
 use Rattle.machine_rules.{specs.Good.{IsWell as IsGiven, Spares}, specs.Natives.{NativeAnswers}, specs.Rules.{Rule, RuleAt}, specs.code.Sound.{AllWait}}
 use Rattle.settling.specs.{declared.certificate.SettlingCertificate.{SettlingCertificate}, Valid.{IsValid}}
-use Rattle.settled_runs.proofs.Staying.{spared-as, update-objects, emission-objects}
+use Rattle.object_machine.proofs.CheckedRuns.Staying.{spared-as, update-objects, emission-objects}
 use Rattle.settled_runs.{specs.Levels.{Level, AreCosts}, specs.Written.{HaveWritten}, proofs.Invariant.{Stacked}, proofs.Begun.{Covered, Held}, proofs.Emitting.{emission-held, update-held}, proofs.Turning.{turn-held}, proofs.Deleting.{destroy-held}, proofs.Carrying.{KeepsPlaces, places-same, places-died, destroy-died}, proofs.Bodies.{Goes, body-goes}}
 
 module _ {p : Loaded} {certificate : SettlingCertificate} (sound : IsSound p) (valid : IsValid p certificate) (cost : ℕ → ℕ) (costs : AreCosts p certificate cost) (classes : ℕ → Option ℕ) where

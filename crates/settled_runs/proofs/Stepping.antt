@@ -10,7 +10,7 @@ use Rattle.machine_state.specs.{State.{Step, Run, Ask, Act}, Telling.{Alone, Gro
 use Rattle.machine_rules.{specs.Operations.{Operation, Write, Begin, operation_of_step}, proofs.Fields.{read-there, method-unique}}
 use Rattle.settling.specs.{Hands.{HandsValue, StandsAlone, WorkHands, HandOn}, Settles.{TakesOne, Carries}}
 use Rattle.object_machine.proofs.CheckedRuns.{Invariant.{BodyStands}}
-use Rattle.settled_runs.proofs.Led.{occurs-in, IsRunBy, by_itself, by_group, IsEffectOf, Draws, way-drawn}
+use Rattle.object_machine.proofs.CheckedRuns.Leading.{occurs-in, IsRunBy, by_itself, by_group, IsEffectOf, Draws, way-drawn}
 use Rattle.settled_runs.{specs.Handed.{IsDoneWith, sets, begins, nothing}, proofs.Handing.{handed}}
 
 -- ---- ways

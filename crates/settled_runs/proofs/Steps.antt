@@ -1,13 +1,14 @@
 -- What every state of a run without a bad moment keeps, where a settling certificate is valid.
-use Rattle.std.proofs.Common.{◌≡◌, ◌⊎◌, inl, inr, ℕ, IsTrue, List, [], length, Option, None, subst, arith}
+use Rattle.std.proofs.Common.{◌≡◌, ◌⊎◌, inl, inr, ℕ, IsTrue, List, [], length, Option, None, subst}
 use Rattle.script_lang.specs.declared.event.Event.{Event}
 use Rattle.meta_model.specs.{Loaded.{Loaded}, Sound.{IsSound}}
 use Rattle.trace_entries.specs.declared.fault.Answer.{Answer}
 use Rattle.machine_state.specs.{State.{State, Activation}, Worlds.{at, untouched}}
 use Rattle.machine_rules.specs.{Good.{IsWell, IsGood, Spares, has_body}, Natives.{NativeAnswers}, Rules.{Rule}}
 use Rattle.settling.specs.{declared.certificate.SettlingCertificate.{SettlingCertificate}, Valid.{IsValid}}
-use Rattle.object_machine.{specs.Runs.{Run, done, goes, takes, Each, GoodRun, Follows, by_rule, by_event}, specs.Takes.{Takes, accepts, refuses}, proofs.Standing.{Invariant}, proofs.Preservation.{after-rule, after-event}, proofs.CheckedRuns.Kept.{start-invariant}}
-use Rattle.settled_runs.{specs.Levels.{AreCosts}, proofs.Invariant.{Holds}, proofs.Rules.{rule-held}, proofs.Events.{takes-held}, proofs.Staying.{Covered, same-count}, proofs.Carrying.{KeepsPlaces}}
+use Rattle.object_machine.{specs.Runs.{Run, done, goes, takes, Each, GoodRun, Follows, by_rule, by_event}, specs.Takes.{Takes, accepts, refuses}, proofs.Standing.{Invariant}, proofs.Preservation.{after-rule, after-event}, proofs.CheckedRuns.Kept.{start-invariant, start-covered}}
+use Rattle.object_machine.proofs.CheckedRuns.Staying.{Covered, same-count}
+use Rattle.settled_runs.{specs.Levels.{AreCosts}, proofs.Invariant.{Holds}, proofs.Rules.{rule-held}, proofs.Events.{takes-held}, proofs.Carrying.{KeepsPlaces}}
 
 pub record Kept (p : Loaded) (cost : ℕ → ℕ) (certificate : SettlingCertificate) (s : State) : Type 0 where
   pub classes : ℕ → Option ℕ
@@ -22,20 +23,12 @@ pub record Followed (p : Loaded) (cost : ℕ → ℕ) (certificate : SettlingCer
   pub count : (length t.objects ≡ length s.objects) ⊎ (t.stack ≡ [])
 
 -- an event is taken where nothing is active
-idle-taken : {p : Loaded} {e : Event} {a : Answer} {u v : State} → Takes p e a u v → u.stack ≡ []
+pub idle-taken : {p : Loaded} {e : Event} {a : Answer} {u v : State} → Takes p e a u v → u.stack ≡ []
 idle-taken (accepts idle y) = idle.empty
 idle-taken (refuses k idle y) = idle.empty
 
-no-body-idle : (s : State) → s.stack ≡ [] → (o : ℕ) → IsTrue (has_body o s.stack) → ⊥
+pub no-body-idle : (s : State) → s.stack ≡ [] → (o : ℕ) → IsTrue (has_body o s.stack) → ⊥
 no-body-idle s empty o body = let none : IsTrue (has_body o []) = subst (λ (l : List Activation). IsTrue (has_body o l)) empty body in absurd (cc none)
-
-start-covered : (p : Loaded) (steps : ℕ) → Covered p (λ o. None) (at (untouched steps) [])
-start-covered p steps = record {
-  known = record { lives = λ o class is. absurd (cc is); each = λ o low. absurd (omega (arith, low)); inside = λ o class is. absurd (cc is) };
-  owned = λ parent. tt;
-  wired = tt;
-  sited = tt;
-}
 
 module _ {p : Loaded} {certificate : SettlingCertificate} (sound : IsSound p) (valid : IsValid p certificate) (cost : ℕ → ℕ) (costs : AreCosts p certificate cost) (natives : NativeAnswers) where
   rule-followed : {s t : State} → Kept p cost certificate s → IsWell p s t → Rule p natives s t → Followed p cost certificate s t

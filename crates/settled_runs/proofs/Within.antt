@@ -14,7 +14,7 @@ use Rattle.machine_state.specs.{State.{State, Activation}, Telling.{Alone}}
 use Rattle.machine_rules.{specs.Settling.{Writes, signal_at}, specs.code.Keeps.{StayThere}, specs.There.{HasField}, proofs.Differing.{differ-stay, differ-spared}, proofs.Dying.{lives-not-dead}, proofs.Fields.{class-unique, old-there, stored-reads}, proofs.Inherited.{property-below}, proofs.Keeps.{class-of-lives}, proofs.Lists.{all-filtered, all-weaken}}
 use Rattle.settling.specs.{declared.certificate.SettlingLine.{SettlingLine}, declared.certificate.SettlingCertificate.{SettlingCertificate}, Sets.{IsIn}, Valid.{IsLineOf, IsValid}}
 use Rattle.object_machine.proofs.CheckedRuns.{Invariant.{IsSited}, Worlds.{Leaves, classes-left, differ-leaves}, Followers.{IsKnown}}
-use Rattle.settled_runs.proofs.Staying.{still-sited, known-targets}
+use Rattle.object_machine.proofs.CheckedRuns.Staying.{still-sited, known-targets}
 use Rattle.settled_runs.{specs.Writes.{IsAtNode, IsLineAt, IsDrawn, AreWritten, IsNoHigher}, specs.Levels.{Carried, Level, written_in, if_within, and_place, AreCosts, Leaves as LeavesSet, FallsTo, IsPlaceIn, IsWell}, specs.Written.{reads, IsOver, HaveWritten, AreOnlyWritten}, proofs.Edges.{one-node, one-line, line-at}, proofs.Unwritten.{followers-low, followers-leave, nothing-follows}, proofs.Keeping.{written-once, written-stay-within, others-stay}, proofs.Carrying.{KeepsPlaces}, proofs.OneValue.{carry-one}, proofs.Dying.{still-falls}, proofs.Deleting.{stacked-still}, proofs.Pushing.{update-within, update-idle}, proofs.Invariant.{IsFollower, UpdateStands, outside, wrote, Stacked}, proofs.Begun.{Covered, Held}, proofs.Settling.{only-written, reads-alike, changed-each}, proofs.Stacks.{levels-of}, proofs.Writing.{are-written}}
 
 -- ---- values that read alike

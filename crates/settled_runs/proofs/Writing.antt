@@ -9,7 +9,7 @@ use Rattle.machine_state.specs.{State.{State, Activation}, Telling.{Assigning, w
 use Rattle.machine_rules.{specs.Settling.{Writes}, specs.There.{HasField}, proofs.Keeps.{class-of-lives}, proofs.Lists.{all-append, all-filtered}}
 use Rattle.settling.specs.{declared.certificate.SettlingLine.{SettlingLine}, declared.certificate.SettlingCertificate.{SettlingCertificate}, Valid.{IsLineOf, IsValid}}
 use Rattle.object_machine.proofs.CheckedRuns.{Followers.{IsKnown}}
-use Rattle.settled_runs.proofs.Staying.{still-sited, fewer-bound, known-targets}
+use Rattle.object_machine.proofs.CheckedRuns.Staying.{still-sited, fewer-bound, known-targets}
 use Rattle.settled_runs.{specs.Writes.{IsAtNode, IsLineAt, AreWritten, IsNoHigher}, specs.Levels.{Level, AreCosts, Leaves, FallsTo, AreLevels}, specs.Written.{HaveWritten}, proofs.Edges.{one-line, line-at}, proofs.Keeping.{left-stays, written-stay}, proofs.Carrying.{KeepsPlaces}, proofs.Drawn.{all-drawn}, proofs.Settling.{only-written, outside-held}, proofs.Invariant.{Stacked}, proofs.Begun.{Covered, Held}}
 
 module _ {p : Loaded} {certificate : SettlingCertificate} (sound : IsSound p) (valid : IsValid p certificate) (cost : ℕ → ℕ) (classes : ℕ → Option ℕ) where

@@ -1,8 +1,9 @@
 -- What holds of every run of a program with a valid settling certificate (docs/settling-proof.md, "The claims").
-use Rattle.std.specs.{Prelude.{◌≡◌, ◌≢◌, ◌+◌, ◌*◌, ◌<◌, ◌≤◌, ℕ, List, [], ◌∷◌, length, Option, Some}, List.{Contains}, Option.{option_map}}
+use Rattle.std.specs.{Prelude.{◌≡◌, ◌≢◌, ◌⊎◌, ◌+◌, ◌*◌, ◌<◌, ◌≤◌, ℕ, List, [], ◌∷◌, length, Option, Some}, List.{Contains}, Option.{option_map}}
 use Rattle.basic_types.specs.declared.value.Value.{Value}
 use Rattle.script_lang.specs.declared.event.Event.{Event}
 use Rattle.meta_model.specs.{Loaded.{Loaded}, Sound.{IsSound}}
+use Rattle.native_slots.specs.Promises.{Takes, Promises}
 use Rattle.object_tree.specs.{declared.object.Object.{Object}, Objects.{class_of}, Seen.{seen}}
 use Rattle.effect_scan.specs.{declared.node.Member.TheVariants.{Method, Property}, Nodes.{node, named}}
 use Rattle.binding_graph.specs.declared.place.Place.{Place}
@@ -10,7 +11,7 @@ use Rattle.settling.specs.{declared.certificate.SettlingCertificate.{SettlingCer
 use Rattle.trace_entries.specs.{declared.fault.Answer.{Answer}, declared.fault.Fault.{Fault}, declared.fault.Fault.TheVariants.{BadType, TooDeep}}
 use Rattle.machine_state.specs.{State.{State, Activation, Body, Emit}, Worlds.{at, untouched}}
 use Rattle.machine_rules.specs.{Good.{IsWell}, Natives.{NativeAnswers}}
-use Rattle.object_machine.specs.{Causes.{StopsFor}, Checked.{IsLimit}, Runs.{GoodRun, Follows}}
+use Rattle.object_machine.specs.{Causes.{StopsFor}, Checked.{IsLimit}, CheckedLaws.{IsFaultless}, Runs.{Run, Each, GoodRun, Follows}}
 use Rattle.settled_runs.specs.Written.{values_of}
 
 -- how deep activations nest at most: the bound, and the step for each object that was made
@@ -39,6 +40,32 @@ pub data MayStop (depth most : ℕ) (fault : Fault) : Type 0 where
 abbrev pub StopsForFew : NativeAnswers → Type 0
 StopsForFew natives = InEachState natives (λ p certificate depth left s.
     (next : List Event) (fault : Fault) → StopsFor p natives depth s left next fault → MayStop depth (most_deep certificate s) fault)
+
+-- ---- where natives keep their promise
+
+-- A state that a run comes to, with so many rules left, in such a program, with natives that keep what it declares of them: from
+-- the beginning, by whatever events. Nothing else is asked of the run.
+pub record IsReached (accepts : Takes) (natives : NativeAnswers) (p : Loaded) (certificate : SettlingCertificate) (s : State) (left : ℕ) : Type 0 where
+  pub sound : IsSound p
+  pub valid : IsValid p certificate
+  pub promises : Promises p accepts natives
+  pub steps : ℕ
+  pub taken : List Event
+  pub answers : List Answer
+  pub run : Run p natives (at (untouched steps) []) steps taken answers s left
+
+-- each step of each run from there is faultless, and nests no deeper than that
+abbrev pub EachRunIsFaultless : Takes → NativeAnswers → Type 0
+EachRunIsFaultless accepts natives =
+    (p : Loaded) (certificate : SettlingCertificate) (s t : State) (left after : ℕ) (events : List Event) (answers : List Answer) →
+    IsReached accepts natives p certificate s left → (run : Run p natives s left events answers t after) →
+    Each (λ u v. IsFaultless p (most_deep certificate v) u v) run
+
+-- a run stops for a limit, or because its depth is less than that
+abbrev pub StopsAtLimits : Takes → NativeAnswers → Type 0
+StopsAtLimits accepts natives =
+    (p : Loaded) (certificate : SettlingCertificate) (s : State) (left depth rules : ℕ) (next : List Event) (fault : Fault) →
+    IsReached accepts natives p certificate s left → StopsFor p natives depth s rules next fault → IsLimit fault ⊎ ((fault ≡ TooDeep) × (depth < most_deep certificate s))
 
 -- ---- values
 

@@ -1,6 +1,6 @@
 //! What holds where a settling certificate is valid.
 
-ghost use Rattle.settled_runs.specs.Claims.{EachCarriesOne, EachChangesToCarried, EachIsShallow, StopsForFew};
+ghost use Rattle.settled_runs.specs.Claims.{EachCarriesOne, EachChangesToCarried, EachIsShallow, EachRunIsFaultless, StopsAtLimits, StopsForFew};
 ghost use Rattle.settled_runs.specs.Deaths.{DeathsKeep};
 ghost use Rattle.settled_runs.specs.Handed.{ValueIsHanded};
 ghost use Rattle.settled_runs.specs.Levels.{LevelsAreShallow, LevelsCarryOne};
@@ -83,3 +83,19 @@ pub fn each_carries_one<N: Answering>(_natives: &N)
 pub fn each_changes_to_carried<N: Answering>(_natives: &N)
     ensures { EachChangesToCarried (N.gives _natives.now) }
 {}
+
+/// Where natives keep what the program declares of them, each step of each run from the beginning has its methods'
+/// arguments, closes no chain of bindings, spares objects with active bodies, has all values of their types, leaves all
+/// settled, and nests no deeper than the bound, and the step for each object that was made.
+pub fn each_run_is_faultless<N: Answering>(_natives: &N)
+    ensures { EachRunIsFaultless (N.takes _natives.now) (N.gives _natives.now) }
+{
+    stacks_are_shallow();
+}
+
+/// So such a run stops only since no rule is left, memory was refused, or the machine's depth is less than that.
+pub fn stops_at_limits<N: Answering>(_natives: &N)
+    ensures { StopsAtLimits (N.takes _natives.now) (N.gives _natives.now) }
+{
+    stacks_are_shallow();
+}

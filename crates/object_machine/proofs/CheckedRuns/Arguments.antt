@@ -11,12 +11,11 @@ use Rattle.object_tree.specs.{declared.life.Life.{Life}, declared.object.Object.
 use Rattle.binding_graph.specs.declared.place.Place.{Place}
 use Rattle.prop_bindings.specs.Fits.{Agree}
 use Rattle.effect_scan.specs.declared.node.Node.{Node}
-use Rattle.certificate_lang.specs.declared.certificate.Certificate.{Certificate}
-use Rattle.rank_check.specs.Valid.{IsValid}
+use Rattle.type_check.specs.Typed.{IsTypedProgram}
 use Rattle.machine_state.specs.{declared.endpoints.Endpoints.{Endpoints}, declared.turn.Turn.{Turn}, Accepting.{accepted}, Connections.{is_living, next_used}, State.{Step, Run, Act, State, IsIdle, Activation, Body, Emit, Update, Destroy}, Turns.{running, reaches_at_once}}
 use Rattle.trace_entries.specs.{declared.refusal.Refusal.{Refusal}, declared.fault.Answer.{Answer}}
 use Rattle.machine_rules.{specs.Connecting.{kept_ends, names_of}, specs.Destroying.{Dies, NextRule, ChildRule, DestroyRule, living_child, Schedules}, specs.Operations.{Operation, Write, Begin, Choose, Connect, Disconnect, Delete, Schedule, TakeAnswer, Nothing, operation_of_step}, specs.Good.{ArgumentsFit, of_living, of_dead, TopFits}, specs.Judgement.{found as finds, holds as so, becomes, goes_on}, specs.Natives.{NativeAnswers}, specs.Rules.{Rule, RuleAt, BodyRule, Does, EmitRule, UpdateRule, NotifiesIf, TurnRule, Serves, Delivers, Arrives, Begins, BeginsIf, begun, with_used, linked, unlinked}, specs.code.Sound.{Waits, SendsThese, MayBeHeard}, specs.There.{IsMember}, specs.Writing.{Announces}, proofs.Doing.{step-of}, proofs.Delivered.{fit-of, next-delivered, delivered-fits}, proofs.Declared.{living-fits}, proofs.Dying.{died-dead}, proofs.Fields.{member-at, method-unique}, proofs.Lists.{all-append}, proofs.Notifying.{announced-fits}, proofs.Soundness.{AllFit}, proofs.Waiting.{first-waits}, proofs.Scheduling.{schedule-cases}, proofs.Hearing.{AllHeard, nobody, may-be-heard}}
-use Rattle.object_machine.{specs.declared.invoking.Invocation.{Invocation}, specs.declared.invoking.Invocation.TheVariants.{Emit as EmitIt, Call as CallIt}, specs.Takes.{Takes as Taking, accepts, refuses}, specs.Events.{judged, block, invoke}, proofs.Standing.{Invariant}, proofs.CheckedRuns.Invariant.{Level, BodyStands, Stacked, Holds}, proofs.CheckedRuns.Promised.{StepIsPromised, AllIsPromised}, proofs.CheckedRuns.Giving.{does-give, answer-promised}, proofs.Judged.{given-is}, proofs.Judging.Naming.{living-is, living-object}, proofs.CheckedRuns.Leading.{does-led}}
+use Rattle.object_machine.{specs.declared.invoking.Invocation.{Invocation}, specs.declared.invoking.Invocation.TheVariants.{Emit as EmitIt, Call as CallIt}, specs.Takes.{Takes as Taking, accepts, refuses}, specs.Events.{judged, block, invoke}, proofs.Standing.{Invariant}, proofs.CheckedRuns.Invariant.{BodyStands, TopStands}, proofs.CheckedRuns.Promised.{StepIsPromised, AllIsPromised}, proofs.CheckedRuns.Giving.{does-give, answer-promised}, proofs.Judged.{given-is}, proofs.Judging.Naming.{living-is, living-object}, proofs.CheckedRuns.Leading.{does-led}}
 
 -- What was pushed over so many activations has its arguments, and what is left of natives' answers keeps to their effects.
 pub record Pushes (p : Loaded) (classes : ℕ → Option ℕ) (high : ℕ) (t : State) : Type 0 where
@@ -80,19 +79,16 @@ module _ {p : Loaded} {classes : ℕ → Option ℕ} where
 
 -- ---- rules
 
-module _ {p : Loaded} {certificate : Certificate} (valid : IsValid p certificate) (sound : IsSound p) (classes : ℕ → Option ℕ) (takes : Takes) (natives : NativeAnswers) (promises : Promises p takes natives) (s : State) (held : Holds p certificate classes s) (up : Invariant p s) where
+module _ {p : Loaded} (program : IsTypedProgram p) (sound : IsSound p) (classes : ℕ → Option ℕ) (takes : Takes) (natives : NativeAnswers) (promises : Promises p takes natives) (s : State) (known : (o class : ℕ) → class_of s.objects o ≡ Some class → classes o ≡ Some class) (up : Invariant p s) where
   agree : Agree p s.objects s.bindings
   agree = (up.sound).agree
-
-  known : (o class : ℕ) → class_of s.objects o ≡ Some class → classes o ≡ Some class
-  known = ((held.covered).known).lives
 
   -- ---- bodies
 
   pushes-does : (t : State) (n o m : ℕ) (arguments : List Value) (y : Step) (rest : List Step) (below : List Activation) {x : Node} (b : BodyStands p s.objects o m arguments (y ∷ rest) x) → n ≡ suc (length below) → StepIsPromised p classes o y → AllByRecursion (StepIsPromised p classes o) rest → AllIsPromised p classes below → (d : Operation) → operation_of_step s.objects o arguments y ≡ Some d → Does p natives s o m arguments rest below d t → Pushes p classes n t
   pushes-does t n o m arguments y rest below b high one left all (Write what) is does = pushes-as (does.settles).gives (record { arguments = λ more. tt; promised = (tt, (left, all)) })
   pushes-does t n o m arguments y rest below b high one left all (Begin x k given) is does =
-      let gives = does-give valid sound classes known agree.typed b y (Begin x k given) (b.steps).0 one is in
+      let gives = does-give program sound classes known agree.typed b y (Begin x k given) (b.steps).0 one is in
       pushes-begins does (fit-of does.is (gives does.object does.method does.is)) (left, all)
   pushes-does t n o m arguments y rest below b high one left all (Choose block) is does =
       pushes-as does (pushes-none (omega (arith, high)) (all-append (StepIsPromised p classes o) (map Run block) rest (runs-promised p classes o block) left, all))
@@ -104,7 +100,7 @@ module _ {p : Loaded} {certificate : Certificate} (valid : IsValid p certificate
   pushes-does t n o m arguments y rest below b high one left all (Schedule x) is does =
       pushes-schedules s t (Body o m arguments rest ∷ below) x (life_of s.objects x) (omega (arith, high)) (left, all) does
   pushes-does t n o m arguments y rest below b high one left all (TakeAnswer effects) is does =
-      let native = does-led valid sound agree.typed b y (TakeAnswer effects) (b.steps).0 is in
+      let native = does-led program sound agree.typed b y (TakeAnswer effects) (b.steps).0 is in
       pushes-as does.gives (pushes-none (omega (arith, high)) (all-append (StepIsPromised p classes o) (map (Act effects) does.actions) rest (answer-promised takes natives sound promises classes known agree.typed b native does) left, all))
   pushes-does t n o m arguments y rest below b high one left all Nothing is does = pushes-as does (pushes-none (omega (arith, high)) (left, all))
 
@@ -179,11 +175,10 @@ module _ {p : Loaded} {certificate : Certificate} (valid : IsValid p certificate
 
   -- ---- all rules
 
-  pushes-at : (t : State) (stack : List Activation) (levels : List (Level certificate)) → s.stack ≡ stack → AllIsPromised p classes stack → Stacked p classes s.objects stack levels → RuleAt p natives s t stack → Pushes p classes (length s.stack) t
-  pushes-at t [] levels is all st rule = pushes-turn t (subst (AllIsPromised p classes) (sym is) tt) is s.turn rule
-  pushes-at t (a ∷ below) [] is all st rule = absurd st
-  pushes-at t (Body o m arguments left ∷ below) (r ∷ levels) is all st rule = pushes-body t (length s.stack) o m arguments left below (st.0).stands (ap (λ (l : List Activation). length l) is) all.0 all.1 rule
-  pushes-at t (Emit o g arguments used last ∷ below) (r ∷ levels) is all st rule =
+  pushes-at : (t : State) (stack : List Activation) → s.stack ≡ stack → AllIsPromised p classes stack → TopStands p s.objects stack → RuleAt p natives s t stack → Pushes p classes (length s.stack) t
+  pushes-at t [] is all top rule = pushes-turn t (subst (AllIsPromised p classes) (sym is) tt) is s.turn rule
+  pushes-at t (Body o m arguments left ∷ below) is all top rule = pushes-body t (length s.stack) o m arguments left below top.1 (ap (λ (l : List Activation). length l) is) all.0 all.1 rule
+  pushes-at t (Emit o g arguments used last ∷ below) is all top rule =
       pushes-emission t (length s.stack) o g arguments used last below (ap (λ (l : List Activation). length l) is) (emitted-on-top is) (heard-on-top is) all.1 (next_used s.objects s.connected.connections o g used last) refl rule
     where
       emitted-on-top : s.stack ≡ Emit o g arguments used last ∷ below → SendsThese p s.objects o g arguments
@@ -191,11 +186,11 @@ module _ {p : Loaded} {certificate : Certificate} (valid : IsValid p certificate
 
       heard-on-top : s.stack ≡ Emit o g arguments used last ∷ below → MayBeHeard s.objects s.connected.connections o g
       heard-on-top e = may-be-heard s.objects s.connected.connections o g (subst (λ (l : List Activation). AllHeard s.objects s.connected.connections nobody l) e up.heard).0
-  pushes-at t (Update places ∷ below) (r ∷ levels) is all st rule = pushes-update t (length s.stack) places below (ap (λ (l : List Activation). length l) is) all.1 rule
-  pushes-at t (Destroy next torn ∷ below) (r ∷ levels) is all st rule = pushes-destroy s t below next torn (ap (λ (l : List Activation). length l) is) all.1 rule
+  pushes-at t (Update places ∷ below) is all top rule = pushes-update t (length s.stack) places below (ap (λ (l : List Activation). length l) is) all.1 rule
+  pushes-at t (Destroy next torn ∷ below) is all top rule = pushes-destroy s t below next torn (ap (λ (l : List Activation). length l) is) all.1 rule
 
-  pub rule-pushes : (t : State) → AllIsPromised p classes s.stack → Rule p natives s t → Pushes p classes (length s.stack) t
-  rule-pushes t all rule = pushes-at t s.stack held.levels refl all held.stacked rule
+  pub rule-pushes : (t : State) → AllIsPromised p classes s.stack → TopStands p s.objects s.stack → Rule p natives s t → Pushes p classes (length s.stack) t
+  rule-pushes t all top rule = pushes-at t s.stack refl all top rule
 
 -- ---- events
 

@@ -7,9 +7,7 @@ use Rattle.meta_model.specs.{declared.object.MetaProperty.{MetaProperty}, declar
 use Rattle.object_tree.{specs.declared.object.Object.{Object}, specs.Objects.{class_of}, specs.Seen.{seen}, specs.Typed.{AreTyped}, proofs.TypedObjects.{has-reads}}
 use Rattle.binding_graph.specs.{declared.binding.Binding.{Binding}, declared.place.Place.{Place}, Bindings.{source_place}, Places.{property_of}}
 use Rattle.prop_bindings.{specs.Calls.{IsOf, CoversBinding, binding_of}, specs.Fits.{IsFit, Agree}, specs.Values.{values_in}, proofs.Alike.{sort_of, BothAlike, values-alike, reads-sort, plain-has}}
-use Rattle.type_check.{specs.Laws.{HasValueOf, SourcesAreTyped}, specs.Typed.{kind_in, IsTypedSite}, proofs.Properties.{has_kind}, proofs.Values.{site_has}}
-use Rattle.certificate_lang.specs.declared.certificate.Certificate.{Certificate}
-use Rattle.rank_check.specs.Valid.{IsValid}
+use Rattle.type_check.{specs.Laws.{HasValueOf, SourcesAreTyped}, specs.Typed.{kind_in, IsTypedSite, IsTypedProgram}, proofs.Properties.{has_kind}, proofs.Values.{site_has}}
 use Rattle.script_lang.specs.declared.event.Event.{Event}
 use Rattle.machine_state.specs.State.{State}
 use Rattle.machine_rules.{specs.Judgement.{found as finds, holds as so, goes_on}, specs.There.{IsField}, proofs.Fields.{old-there, stored-reads}, proofs.Keeps.{lives-of-class}, proofs.Inherited.{property-below}}
@@ -100,11 +98,11 @@ module _ {p : Loaded} (sound : IsSound p) (objects : List Object) (typed : AreTy
       some-alike (Some w) v e = (w, refl, sym (same_Some _ _ e))
 
 -- a binding that may be installed fits
-pub may-fit : {p : Loaded} {certificate : Certificate} → IsValid p certificate → IsSound p → (s : State) → Agree p s.objects s.bindings → (site target : List ℕ) (sources : List (List ℕ)) (b : Binding) → may_bind p s site target sources (Ok b) → IsFit p s.objects b
-may-fit {p} valid sound s agree site target sources b (goes_on n (finds is) (goes_on _ count (goes_on o lives (goes_on xs all (goes_on _ (so covers) (goes_on _ one given)))))) =
+pub may-fit : {p : Loaded} → IsTypedProgram p → IsSound p → (s : State) → Agree p s.objects s.bindings → (site target : List ℕ) (sources : List (List ℕ)) (b : Binding) → may_bind p s site target sources (Ok b) → IsFit p s.objects b
+may-fit {p} program sound s agree site target sources b (goes_on n (finds is) (goes_on _ count (goes_on o lives (goes_on xs all (goes_on _ (so covers) (goes_on _ one given)))))) =
     subst (λ (z : Binding). IsFit p s.objects z) (sym (given-is given))
-    (covered-fits sound s.objects agree.typed n.it n.number o.number xs (sound.sites n.number n.it is.0) ((valid.typed).sites n.number n.it is.0) covers)
+    (covered-fits sound s.objects agree.typed n.it n.number o.number xs (sound.sites n.number n.it is.0) (program.sites n.number n.it is.0) covers)
 
 -- so no event asks for one that doesn't
-pub binds-fit : {p : Loaded} {certificate : Certificate} → IsValid p certificate → IsSound p → {s : State} {events : List Event} {b : Binding} → Agree p s.objects s.bindings → BindsNext p s events b → IsFit p s.objects b
-binds-fit valid sound {s = s} {b = b} agree next = may-fit valid sound s agree next.site next.target next.sources b next.may
+pub binds-fit : {p : Loaded} → IsTypedProgram p → IsSound p → {s : State} {events : List Event} {b : Binding} → Agree p s.objects s.bindings → BindsNext p s events b → IsFit p s.objects b
+binds-fit program sound {s = s} {b = b} agree next = may-fit program sound s agree next.site next.target next.sources b next.may

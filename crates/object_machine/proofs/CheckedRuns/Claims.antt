@@ -59,7 +59,7 @@ module _ {accepts : Takes} {natives : NativeAnswers} {p : Loaded} {certificate :
   kept = as-kept reached.valid reached.sound natives stood
 
   binds-not : {next : List Event} → BindsIll p s next → ⊥
-  binds-not ill = ill.ill (binds-fit reached.valid reached.sound ((kept.1).sound).agree ill.next)
+  binds-not ill = ill.ill (binds-fit (reached.valid.typed) reached.sound ((kept.1).sound).agree ill.next)
 
   writes-not : WritesIll p s → ⊥
   writes-not ill = writes-none reached.valid reached.sound stood ill

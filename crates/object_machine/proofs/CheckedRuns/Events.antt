@@ -1,22 +1,17 @@
--- Each event keeps what a run of a checked program keeps; a new object gets its class.
+-- What each event leaves to be done in a covered world, whatever a certificate says; a new object gets its class.
 use Rattle.std.{proofs.Common.{◌≡◌, ◌≢◌, inl, inr, ℕ, ◌+◌, ◌<◌, eqb, cond, Bool, true, false, List, [], ◌∷◌, ◌++◌, length, length-append, Ok, Option, Some, None, slice_get, refl, sym, ap, ◌∙◌, subst, arith}, specs.List.{AllByRecursion, AllZip}, specs.Option.{option_map, option_and_then}, proofs.lemmas.Bool.{cases_eq, eq-eqb, ne_eqb}, proofs.lemmas.Option.{none-some, slice_get_within}}
-use Rattle.basic_types.specs.declared.sig.Sig.{Sig}
+use Rattle.basic_types.specs.{declared.sig.Sig.{Sig}, declared.value.Value.{Value}}
 use Rattle.syntax_trees.specs.{declared.connection.ConnectionType.{ConnectionType}, declared.connection.Endpoints.{Endpoints as Named}}
 use Rattle.script_lang.specs.{declared.event.Event.{Event}, declared.event.Event.TheVariants.{Loop, Turn, New, Adopt, Move, Connect, Disconnect, Set, Bind, Emit as EmitEvent, Call as CallEvent, Block, Unblock, Delete as DeleteEvent, Later as LaterEvent}, declared.event.Input.{Input}}
-use Rattle.meta_model.specs.{Loaded.{Loaded}, Members.{Covers}, Sound.{IsSound}}
+use Rattle.meta_model.specs.{declared.object.MetaObject.{MetaObject}, Loaded.{Loaded}, Members.{IsClass, Covers}, Sound.{IsSound}}
 use Rattle.connections.specs.declared.connection.Connection.{Connection}
 use Rattle.object_tree.{specs.declared.life.Life.{Life}, specs.declared.object.Object.{Object}, specs.Creating.{begun as begun_life, fresh, initial_values}, specs.Family.{children_in, parent_of, leaves, joined_by, put_under, moved}, specs.Moving.{in_loop, all_in_loop}, specs.Objects.{change, change_life, with_life, blocked}, proofs.Changing.{part-change, life-part, length-change, get-change_other}, proofs.TypedObjects.{get-appended, class-same, shape-moved}}
-use Rattle.event_loops.specs.Queues.{Queues, rehomed}
 use Rattle.delete_later.specs.declared.store.Store.{Store}
-use Rattle.binding_graph.{specs.declared.binding.Binding.{Binding}, specs.declared.place.Place.{Place}, specs.Bindings.{binding_at, without, replaced}, proofs.Replaced.{installed-is}, proofs.Places.{decide_place}, proofs.Walks.{bound-other}, specs.Places.{property_of}}
+use Rattle.binding_graph.{specs.declared.binding.Binding.{Binding}, specs.declared.place.Place.{Place}, specs.Places.{property_of}}
 use Rattle.prop_bindings.specs.{Calls.{IsOf as IsLivingOf}, Fits.{Agree}}
-use Rattle.effect_scan.specs.{declared.node.Member.TheVariants.{Method, Property, Destruction}, Nodes.{node, named}, Destroying.{itself}}
-use Rattle.certificate_lang.specs.declared.certificate.Certificate.{Certificate}
-use Rattle.rank_check.specs.Valid.{IsValid}
-use Rattle.machine_state.{specs.Accepting.{accepted}, specs.Connections.{joins_these}, specs.State.{State, IsIdle, Activation}, specs.Worlds.{with_store}, proofs.Due.{all-removed}, specs.Telling.{Alone}}
-use Rattle.machine_rules.{specs.declared.ends.FoundEnds.{FoundEnds}, specs.Good.{IsWell}, specs.Judgement.{Numbered, found as finds, holds as so, becomes, goes_on}, specs.Settling.{Installs}, proofs.Keeps.{class-of-lives}, proofs.Lists.{all-filtered, all-snoc, all-weaken}}
-use Rattle.object_machine.{specs.declared.invoking.Invocation.{Invocation}, specs.declared.invoking.Invocation.TheVariants.{Emit as EmitIt, Call as CallIt}, specs.Takes.{Takes, accepts, refuses}, specs.Events.{judged, may_bind, block, find_ends, invoke}, specs.code.Judgement.{IsLiving}, proofs.CheckedRuns.Invariant.{Stacked, AreClasses, AreOwned, IsOwned, IsWired, IsOf, IsSited, IsCovered, Holds}, proofs.CheckedRuns.Nodes.{named-node, property-node, end-node}, proofs.CheckedRuns.Ladder.{level-at, level-of}, proofs.Changes.{adopted-by, length-moved}, proofs.Judged.{given-is}, proofs.Judging.Naming.{living-is, living-object}, proofs.Moving.{moved-by}, proofs.CheckedRuns.Worlds.{Leaves, classes-left, all-changed, all-left}, proofs.CheckedRuns.Rules.{writes-held, settles-held, alone-low, begun-held, wired-by, deletes-held, schedules-held}}
-use Rattle.trace_entries.specs.declared.fault.Answer.{Answer}
+use Rattle.machine_state.{specs.Accepting.{accepted}, specs.Connections.{joins_these}, specs.State.{State, IsIdle}, specs.Worlds.{with_store}, proofs.Due.{all-removed}, specs.Telling.{Alone}}
+use Rattle.machine_rules.{specs.declared.ends.FoundEnds.{FoundEnds}, specs.Judgement.{Numbered, found as finds, holds as so, becomes, goes_on}, specs.Destroying.{deleting}, specs.Rules.{Begins}, specs.Settling.{Writes, Installs}, proofs.Lists.{all-snoc, all-weaken}}
+use Rattle.object_machine.{specs.declared.invoking.Invocation.{Invocation}, specs.declared.invoking.Invocation.TheVariants.{Emit as EmitIt, Call as CallIt}, specs.Events.{judged, may_bind, block, find_ends, invoke}, specs.code.Judgement.{IsLiving}, proofs.CheckedRuns.Invariant.{AreClasses, AreOwned, IsOwned, IsWired, IsOf, IsSited, IsCovered}, proofs.Changes.{adopted-by, length-moved}, proofs.Judged.{given-is}, proofs.Judging.Naming.{living-is, living-object}, proofs.Moving.{moved-by}, proofs.CheckedRuns.Worlds.{Leaves, classes-left, all-changed, all-left}, proofs.CheckedRuns.Staying.{Covered, wired-by, schedules-covered}}
 
 -- ---- objects change
 
@@ -137,151 +132,95 @@ module _ {p : Loaded} (classes : ℕ → Option ℕ) (objects : List Object) (kn
 
 -- ---- events
 
-module _ {p : Loaded} {certificate : Certificate} (valid : IsValid p certificate) (sound : IsSound p) where
-  -- it is kept, with some classes
-  abbrev pub HoldsSome : State → Type 0
-  HoldsSome s = (classes : ℕ → Option ℕ) × Holds p certificate classes s
+-- what an event leaves to be done, where nothing else is active: nothing, a write, a bind, a call or a deletion
+pub data Comes (p : Loaded) (classes : ℕ → Option ℕ) (s t : State) : Type 0 where
+  rests : (now : ℕ → Option ℕ) → Covered p now t → t.stack ≡ [] → Comes p classes s t
+  sets : (place : Place) (v : Value) → Writes p (accepted s) s.stack (Alone place v) t → Comes p classes s t
+  binds : (b : Binding) → IsSited p classes b → Installs p (accepted s) s.stack b t → Comes p classes s t
+  begins : (o m : ℕ) (given : List Value) → Begins p (accepted s) s.stack o m given t → Comes p classes s t
+  deletes : (x class : ℕ) → classes x ≡ Some class → (c : MetaObject) → IsClass p class c → t ≡ deleting (accepted s) s.stack x → Comes p classes s t
 
-  idle-stacked : (classes : ℕ → Option ℕ) (objects : List Object) (stack : List Activation) → stack ≡ [] → Stacked p {certificate = certificate} classes objects stack []
-  idle-stacked classes objects stack e = subst (λ (l : List Activation). Stacked p {certificate = certificate} classes objects l []) (sym e) tt
+module _ {p : Loaded} (sound : IsSound p) (s : State) (idle : IsIdle s) (classes : ℕ → Option ℕ) (covered : Covered p classes s) (agree : Agree p s.objects s.bindings) where
+  -- nothing is left
+  rests-as : {t u : State} (now : ℕ → Option ℕ) → t ≡ u → Covered p now u → u.stack ≡ [] → Comes p classes s t
+  rests-as now e is empty = rests now (let Family : State → Type 0 = λ v. Covered p now v in subst Family (sym e) is) (ap (λ (v : State). v.stack) e ∙ empty)
 
-  module _ (s : State) (idle : IsIdle s) (classes : ℕ → Option ℕ) (covered : IsCovered p classes s.objects s.connected.connections s.bindings) (agree : Agree p s.objects s.bindings) where
-    stands : Stacked p {certificate = certificate} classes s.objects s.stack []
-    stands = idle-stacked classes s.objects s.stack idle.empty
+  -- objects change, and no class or child is new
+  changed-covered : (objects : List Object) → Leaves p classes s.objects objects → IsCovered p classes objects s.connected.connections s.bindings
+  changed-covered objects left = record { known = classes-left left covered.known; owned = left.children covered.owned; wired = covered.wired; sited = covered.sited }
 
-    -- objects change, and no class or child is new; nor does it matter what waits
-    objects-held : (objects : List Object) (queues : Queues) → Leaves p classes s.objects objects → Holds p certificate classes (record (accepted s) { objects = objects; queues = queues })
-    objects-held objects queues left = record {
-      covered = record { known = classes-left left covered.known; owned = left.children covered.owned; wired = covered.wired; sited = covered.sited };
-      levels = [];
-      stacked = idle-stacked classes objects s.stack idle.empty;
-    }
+  known-living : {name : List ℕ} (o : Numbered Life) → IsLiving s.objects name o → classes o.number ≡ Some (o.it).class
+  known-living o is = (covered.known).lives o.number (o.it).class (ap (option_map (λ (l : Life). l.class)) is.lives)
 
-    known-living : {name : List ℕ} (o : Numbered Life) → IsLiving s.objects name o → classes o.number ≡ Some (o.it).class
-    known-living o is = (covered.known).lives o.number (o.it).class (ap (option_map (λ (l : Life). l.class)) is.lives)
+  invoked-comes : (t : State) (a : Invocation) (name called : List ℕ) (inputs : List Input) → invoke p s a name called inputs (Ok t) → Comes p classes s t
+  invoked-comes t a name called inputs (goes_on o lives (goes_on m asked (goes_on vs given (goes_on _ fit (becomes b))))) = begins o.number m.number vs b
 
-    invoked-held : (t : State) (a : Invocation) (name called : List ℕ) (inputs : List Input) → IsWell p s t → invoke p s a name called inputs (Ok t) → Holds p certificate classes t
-    invoked-held t a name called inputs well (goes_on o lives (goes_on m asked (goes_on vs given (goes_on _ fit (becomes b))))) =
-        let life = (b.is).life in
-        let r = level-at valid (node life.class (Method (named m.number))) (named-node sound life.class m.number b.method (b.is).is_method) in
-        begun-held valid sound classes (accepted s) t (length s.stack) s.stack o.number b.object m.number b.method vs (b.method).work [] r.0 covered b.is refl r.1 tt stands (omega arith) well.arguments b.gives
+  blocked-comes : {t : State} (name : List ℕ) (on : Bool) → block s name on (Ok t) → Comes p classes s t
+  blocked-comes name on (goes_on o lives given) = rests-as classes (given-is given) (changed-covered (change_life o.number (blocked on) s.objects) (life-leaves s.objects o.number (blocked on) (λ l. refl))) idle.empty
 
-    blocked-held : {t : State} (name : List ℕ) (on : Bool) → block s name on (Ok t) → Holds p certificate classes t
-    blocked-held name on (goes_on o lives given) = let Family : State → Type 0 = λ u. Holds p certificate classes u in subst Family (sym (given-is given)) (objects-held (change_life o.number (blocked on) s.objects) s.queues (life-leaves s.objects o.number (blocked on) (λ l. refl)))
+  -- a connection is covered
+  connection-wired : (e : Named (List ℕ)) (how : ConnectionType) (n : ℕ) (f : FoundEnds) → find_ends p s.objects e (Ok f) → Covers p f.from e.signal f.to e.method how.kind →
+      IsWired p classes (record { number = n; sender = f.ends.sender; signal = f.ends.signal; receiver = f.ends.receiver; method = f.ends.method; kind = how.kind; single = how.single })
+  connection-wired e how n f (goes_on a sender (goes_on b receiver (goes_on g (finds signal) (goes_on m (finds method) given)))) covers =
+      let Covered_by : FoundEnds → Type 0 = λ k. Covers p k.from e.signal k.to e.method how.kind in
+      let Wired_as : FoundEnds → Type 0 = λ k. IsWired p classes (record { number = n; sender = k.ends.sender; signal = k.ends.signal; receiver = k.ends.receiver; method = k.ends.method; kind = how.kind; single = how.single }) in
+      let found_covers = subst Covered_by (given-is given) covers in
+      let Signal_sig : Sig → Type 0 = λ z. Covers p (a.it).class z (b.it).class e.method how.kind in
+      let Method_sig : Sig → Type 0 = λ z. Covers p (a.it).class ((signal.0).method).sig (b.it).class z how.kind in
+      let spelled = subst Method_sig (sym method.signed) (subst Signal_sig (sym (signal.0).signed) found_covers) in
+      subst Wired_as (sym (given-is given))
+      (wired-by sound classes (a.it).class (b.it).class a.number b.number g m n (signal.0).method method.method how.kind how.single (known-living a (living-is sender)) (known-living b (living-is receiver)) (signal.0).is method.is spelled)
 
-    -- a connection is covered
-    connection-wired : (e : Named (List ℕ)) (how : ConnectionType) (n : ℕ) (f : FoundEnds) → find_ends p s.objects e (Ok f) → Covers p f.from e.signal f.to e.method how.kind →
-        IsWired p classes (record { number = n; sender = f.ends.sender; signal = f.ends.signal; receiver = f.ends.receiver; method = f.ends.method; kind = how.kind; single = how.single })
-    connection-wired e how n f (goes_on a sender (goes_on b receiver (goes_on g (finds signal) (goes_on m (finds method) given)))) covers =
-        let Covered_by : FoundEnds → Type 0 = λ k. Covers p k.from e.signal k.to e.method how.kind in
-        let Wired_as : FoundEnds → Type 0 = λ k. IsWired p classes (record { number = n; sender = k.ends.sender; signal = k.ends.signal; receiver = k.ends.receiver; method = k.ends.method; kind = how.kind; single = how.single }) in
-        let found_covers = subst Covered_by (given-is given) covers in
-        let Signal_sig : Sig → Type 0 = λ z. Covers p (a.it).class z (b.it).class e.method how.kind in
-        let Method_sig : Sig → Type 0 = λ z. Covers p (a.it).class ((signal.0).method).sig (b.it).class z how.kind in
-        let spelled = subst Method_sig (sym method.signed) (subst Signal_sig (sym (signal.0).signed) found_covers) in
-        subst Wired_as (sym (given-is given))
-        (wired-by valid sound classes (a.it).class (b.it).class a.number b.number g m n (signal.0).method method.method how.kind how.single (known-living a (living-is sender)) (known-living b (living-is receiver)) (signal.0).is method.is spelled)
+  -- a binding is covered
+  sources-of : (os formals : List ℕ) → AllZip (IsLivingOf p s.objects) os formals → AllZip (IsOf p classes) os formals
+  sources-of [] [] all = all
+  sources-of [] (f ∷ fs) all = absurd all
+  sources-of (o ∷ os) [] all = absurd all
+  sources-of (o ∷ os) (f ∷ fs) all = (record { class = (all.0).class; is = (covered.known).lives o (all.0).class (all.0).is; below = (all.0).below }, sources-of os fs all.1)
 
-    -- a binding is covered
-    sources-of : (os formals : List ℕ) → AllZip (IsLivingOf p s.objects) os formals → AllZip (IsOf p classes) os formals
-    sources-of [] [] all = all
-    sources-of [] (f ∷ fs) all = absurd all
-    sources-of (o ∷ os) [] all = absurd all
-    sources-of (o ∷ os) (f ∷ fs) all = (record { class = (all.0).class; is = (covered.known).lives o (all.0).class (all.0).is; below = (all.0).below }, sources-of os fs all.1)
+  pub binding-sited : (site target : List ℕ) (sources : List (List ℕ)) (b : Binding) → may_bind p s site target sources (Ok b) → IsSited p classes b
+  binding-sited site target sources b (goes_on n (finds is) (goes_on _ count (goes_on o lives (goes_on xs all (goes_on _ (so covers) (goes_on _ one given)))))) =
+      let Sited : Binding → Type 0 = λ z. IsSited p classes z in
+      let target_is = covers.of_target in
+      subst Sited (sym (given-is given)) (record {
+        site = n.it;
+        declared = is.0;
+        formula = refl;
+        property = refl;
+        target = record { class = target_is.class; is = (covered.known).lives o.number target_is.class target_is.is; below = target_is.below };
+        sources = sources-of xs (n.it).formals covers.of_sources;
+      })
 
-    pub binding-sited : (site target : List ℕ) (sources : List (List ℕ)) (b : Binding) → may_bind p s site target sources (Ok b) → IsSited p classes b
-    binding-sited site target sources b (goes_on n (finds is) (goes_on _ count (goes_on o lives (goes_on xs all (goes_on _ (so covers) (goes_on _ one given)))))) =
-        let Sited : Binding → Type 0 = λ z. IsSited p classes z in
-        let target_is = covers.of_target in
-        subst Sited (sym (given-is given)) (record {
-          site = n.it;
-          declared = is.0;
-          formula = refl;
-          property = refl;
-          target = record { class = target_is.class; is = (covered.known).lives o.number target_is.class target_is.is; below = target_is.below };
-          sources = sources-of xs (n.it).formals covers.of_sources;
-        })
-
-    bound-held : (t : State) (b : Binding) → IsSited p classes b → Installs p (accepted s) s.stack b t → Holds p certificate classes t
-    bound-held t b sited x =
-        let field = (x.there).is in
-        let life = field.life in
-        let class_is : classes b.target.object ≡ Some life.class = (covered.known).lives b.target.object life.class (class-of-lives s.objects b.target.object field.lives) in
-        let r = level-at valid (node life.class (Property b.target.property)) (property-node sound life.class b.target.property (x.there).property (record { class = field.class; is_class = field.is_class; is = field.is_property })) in
-        let all = all-snoc (IsSited p classes) (filter_kept b) b (all-filtered (IsSited p classes) _ s.bindings covered.sited) sited in
-        settles-held valid sound classes {s = accepted s} s.stack [] (level-of valid r.0) (b.target ∷ []) x.objects (replaced s.bindings b) x.changed covered agree stands tt (alone-low valid sound classes b.target life.class r.0 class_is r.1) (x.installed).objects all (x.installed).settled
-        (λ q z other e. same-elsewhere q z (λ same. other (inl same)) e) (λ q other none. (x.installed).kept q none) (x.installed).changes x.settles
-      where
-        filter_kept : Binding → List Binding
-        filter_kept z = without z.target s.bindings
-
-        same-elsewhere : (q : Place) (z : Binding) → ¬ (b.target ≡ q) → binding_at (replaced s.bindings b) q ≡ Some z → binding_at s.bindings q ≡ Some z
-        same-elsewhere q z other e = elim (decide_place b.target q) [
-          | inl same ↦ absurd (other same)
-          | inr apart ↦ sym (bound-other (binding_at s.bindings) b.target b q apart) ∙ ap (λ (F : Place → Option Binding). F q) (sym (installed-is s.bindings b)) ∙ e
-        ]
-
-    event-held : {t : State} (e : Event) → IsWell p s t → judged p s e (Ok t) → HoldsSome t
-    event-held (Loop name) well (goes_on _ free given) = let Family : State → Type 0 = λ u. Holds p certificate classes u in (classes, subst Family (sym (given-is given)) (record { covered = covered; levels = []; stacked = stands }))
-    event-held (Turn name) well (goes_on home is given) = let Family : State → Type 0 = λ u. Holds p certificate classes u in (classes, subst Family (sym (given-is given)) (record { covered = covered; levels = []; stacked = stands }))
-    event-held (New name class loop) well (goes_on _ free (goes_on c (finds is) (goes_on home lives (goes_on _ room given)))) =
-        let z : Object = fresh name c.number home (initial_values c.it) in
-        let l : Life = begun_life c.number home (initial_values c.it) in
-        let Family : State → Type 0 = λ u. Holds p certificate (with-class (length s.objects) c.number classes) u in (
-          with-class (length s.objects) c.number classes,
-          subst Family (sym (given-is given)) (record {
-            covered = created-covered classes s.objects covered.known c.number (slice_get_within p.classes c.number c.it (is.0).is) z l refl refl refl s.connected.connections s.bindings covered;
-            levels = [];
-            stacked = idle-stacked (with-class (length s.objects) c.number classes) (s.objects ++ z ∷ []) s.stack idle.empty;
-          }),
-        )
-    event-held (Adopt parent child) well (goes_on a is_parent (goes_on c is_child (goes_on _ (so owns) (goes_on _ over (goes_on _ home (goes_on objects (becomes x) given)))))) =
-        let owned : IsOwned p classes a.number c.number = record { above = (a.it).class; is_above = known-living a (living-is is_parent); below = (c.it).class; is_below = known-living c (living-is is_child); owns = owns } in
-        let Family : State → Type 0 = λ u. Holds p certificate classes u in
-        (classes, subst Family (sym (given-is given)) (adopted-by (λ (l : List Object). Holds p certificate classes (record (accepted s) { objects = l })) (record { covered = covered; levels = []; stacked = stands }) (objects-held (moved a.number c.number s.objects) s.queues (moved-leaves s.objects a.number c.number owned)) x))
-    event-held (Move name loop) well (goes_on o lives (goes_on home is (goes_on _ root (goes_on _ alone (goes_on store (becomes x) given))))) =
-        let Family : State → Type 0 = λ u. Holds p certificate classes u in (
-          classes,
-          subst Family (sym (given-is given)) (moved-by (λ (stores : Store). Holds p certificate classes (with_store (accepted s) stores)) (record { covered = covered; levels = []; stacked = stands })
-              (λ os alone. objects-held (all_in_loop os home s.objects) (rehomed os home s.queues) (in-loop-leaves home os s.objects)) x),
-        )
-    event-held (Connect e how) well (goes_on f both (goes_on _ (goes_on _ (so covers) rest) given)) =
-        let Family : State → Type 0 = λ u. Holds p certificate classes u in (
-          classes,
-          subst Family (sym (given-is given)) (record {
-            covered = record { known = covered.known; owned = covered.owned; wired = all-snoc (IsWired p classes) s.connected.connections _ covered.wired (connection-wired e how (s.connected.last + 1) f both covers); sited = covered.sited };
-            levels = [];
-            stacked = stands;
-          }),
-        )
-    event-held (Disconnect e) well (goes_on f both (goes_on _ is given)) =
-        let Family : State → Type 0 = λ u. Holds p certificate classes u in (
-          classes,
-          subst Family (sym (given-is given)) (record {
-            covered = record { known = covered.known; owned = covered.owned; wired = all-removed (IsWired p classes) (joins_these f.ends) s.connected covered.wired; sited = covered.sited };
-            levels = [];
-            stacked = stands;
-          }),
-        )
-    event-held (Set name property i) well (goes_on o lives (goes_on q _ (goes_on v _ (goes_on _ fits (becomes w))))) =
-        let field = (w.there).0 in
-        let life = (field.is).life in
-        let class_is : classes o.number ≡ Some life.class = (covered.known).lives o.number life.class (class-of-lives s.objects o.number (field.is).lives) in
-        let r = level-at valid (node life.class (Property q.number)) (property-node sound life.class q.number field.property (record { class = (field.is).class; is_class = (field.is).is_class; is = (field.is).is_property })) in
-        (classes, writes-held valid sound classes {s = accepted s} s.stack [] (level-of valid r.0) (Alone (property_of o.number q.number) v) covered agree stands tt (alone-low valid sound classes (property_of o.number q.number) life.class r.0 class_is r.1) w)
-    event-held {t} (Bind site target sources) well (goes_on b may (becomes x)) = (classes, bound-held t b (binding-sited site target sources b may) x)
-    event-held {t} (EmitEvent name signal inputs) well x = (classes, invoked-held t EmitIt name signal inputs well x)
-    event-held {t} (CallEvent name slot inputs) well x = (classes, invoked-held t CallIt name slot inputs well x)
-    event-held (Block name) well x = (classes, blocked-held name true x)
-    event-held (Unblock name) well x = (classes, blocked-held name false x)
-    event-held (DeleteEvent name) well (goes_on o lives given) =
-        let it = living-object o (living-is lives) in
-        let class = (agree.typed o.number it.0 o.it it.1).is_class in
-        let r = level-at valid (node (o.it).class Destruction) (end-node sound (o.it).class _ class) in
-        (classes, (deletes-held valid sound classes (accepted s) _ s.stack [] r.0 o.number (o.it).class covered stands tt r.1 (known-living o (living-is lives)) (itself class) (given-is given)).0)
-    event-held {t} (LaterEvent name) well (goes_on o lives (becomes x)) = (classes, (schedules-held valid sound classes (accepted s) t s.stack [] o.number (Some o.it) covered stands x).0)
-
-  -- the taking of an event keeps it
-  pub takes-held : (s t : State) (e : Event) {a : Answer} → HoldsSome s → Agree p s.objects s.bindings → IsWell p s t → Takes p e a s t → HoldsSome t
-  takes-held s t e held agree well (accepts idle x) = event-held s idle held.0 (held.1).covered agree e well x
-  takes-held s t e held agree well (refuses k idle x) = (held.0, record { covered = (held.1).covered; levels = (held.1).levels; stacked = (held.1).stacked })
+  pub event-comes : {t : State} (e : Event) → judged p s e (Ok t) → Comes p classes s t
+  event-comes (Loop name) (goes_on _ free given) = rests-as classes (given-is given) covered idle.empty
+  event-comes (Turn name) (goes_on home is given) = rests-as classes (given-is given) covered idle.empty
+  event-comes (New name class loop) (goes_on _ free (goes_on c (finds is) (goes_on home lives (goes_on _ room given)))) =
+      let z : Object = fresh name c.number home (initial_values c.it) in
+      let l : Life = begun_life c.number home (initial_values c.it) in
+      rests-as (with-class (length s.objects) c.number classes) (given-is given)
+      (created-covered classes s.objects covered.known c.number (slice_get_within p.classes c.number c.it (is.0).is) z l refl refl refl s.connected.connections s.bindings covered) idle.empty
+  event-comes {t} (Adopt parent child) (goes_on a is_parent (goes_on c is_child (goes_on _ (so owns) (goes_on _ over (goes_on _ home (goes_on objects (becomes x) given)))))) =
+      let owned : IsOwned p classes a.number c.number = record { above = (a.it).class; is_above = known-living a (living-is is_parent); below = (c.it).class; is_below = known-living c (living-is is_child); owns = owns } in
+      rests-as classes (given-is given)
+      (adopted-by (λ (l : List Object). IsCovered p classes l s.connected.connections s.bindings) covered (changed-covered (moved a.number c.number s.objects) (moved-leaves s.objects a.number c.number owned)) x) idle.empty
+  event-comes (Move name loop) (goes_on o lives (goes_on home is (goes_on _ root (goes_on _ alone (goes_on store (becomes x) given))))) =
+      rests-as classes (given-is given)
+      (moved-by (λ (stores : Store). Covered p classes (with_store (accepted s) stores)) covered (λ os alone. changed-covered (all_in_loop os home s.objects) (in-loop-leaves home os s.objects)) x) idle.empty
+  event-comes (Connect e how) (goes_on f both (goes_on _ (goes_on _ (so covers) rest) given)) =
+      rests-as classes (given-is given)
+      (record { known = covered.known; owned = covered.owned; wired = all-snoc (IsWired p classes) s.connected.connections _ covered.wired (connection-wired e how (s.connected.last + 1) f both covers); sited = covered.sited }) idle.empty
+  event-comes (Disconnect e) (goes_on f both (goes_on _ is given)) =
+      rests-as classes (given-is given)
+      (record { known = covered.known; owned = covered.owned; wired = all-removed (IsWired p classes) (joins_these f.ends) s.connected covered.wired; sited = covered.sited }) idle.empty
+  event-comes (Set name property i) (goes_on o lives (goes_on q _ (goes_on v _ (goes_on _ fits (becomes w))))) = sets (property_of o.number q.number) v w
+  event-comes (Bind site target sources) (goes_on b may (becomes x)) = binds b (binding-sited site target sources b may) x
+  event-comes {t} (EmitEvent name signal inputs) x = invoked-comes t EmitIt name signal inputs x
+  event-comes {t} (CallEvent name slot inputs) x = invoked-comes t CallIt name slot inputs x
+  event-comes (Block name) x = blocked-comes name true x
+  event-comes (Unblock name) x = blocked-comes name false x
+  event-comes (DeleteEvent name) (goes_on o lives given) =
+      let it = living-object o (living-is lives) in
+      deletes o.number (o.it).class (known-living o (living-is lives)) _ (agree.typed o.number it.0 o.it it.1).is_class (given-is given)
+  event-comes {t} (LaterEvent name) (goes_on o lives (becomes x)) =
+      let later = schedules-covered sound classes (accepted s) t s.stack o.number (Some o.it) covered x in
+      rests classes later.0 (later.1 ∙ idle.empty)

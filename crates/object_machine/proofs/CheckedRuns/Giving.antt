@@ -1,5 +1,5 @@
 -- What a step of a body gives is of the types that are asked.
-use Rattle.std.{proofs.Common.{◌≡◌, ℕ, ◌-◌, ◌&&◌, Bool, true, false, IsTrue, List, [], ◌∷◌, length, map, Option, Some, None, slice_get, refl, sym, ◌∙◌, subst}, specs.Prelude.{IfSome, nat_le}, specs.List.{AllByRecursion, list_all}, specs.Option.{option_and_then, option_map, option_map_or}, proofs.lemmas.Option.{same_Some}, proofs.lemmas.List.Elements.{recursion_from_All}}
+use Rattle.std.{proofs.Common.{◌≡◌, ℕ, ◌&&◌, Bool, true, false, IsTrue, List, [], ◌∷◌, length, map, Option, Some, None, slice_get, refl, sym, ◌∙◌, subst}, specs.Prelude.{IfSome, nat_le}, specs.List.{AllByRecursion, list_all}, specs.Option.{option_and_then, option_map, option_map_or}, proofs.lemmas.Option.{same_Some}, proofs.lemmas.List.Elements.{recursion_from_All}}
 use Rattle.basic_types.specs.declared.value.Value.{Value}
 use Rattle.basic_types.specs.declared.value.Value.TheVariants as value
 use Rattle.meta_model.specs.{declared.effects.MetaEffects.{MetaEffects}, declared.object.MetaMethod.{MetaMethod}, declared.object.MetaObject.{MetaObject}, declared.object.MetaProperty.{MetaProperty}, declared.object.Statement.{Statement}, declared.object.Statement.TheViews.{out-Statement}, declared.object.ValueType.{ValueType}, declared.object.Work.{Work}, declared.object.Work.TheVariants.{Native}, Loaded.{Loaded}, Members.{IsMethod, IsProperty, Below}, Sound.{IsSound, IsSet, IsSoundStatement, set_sound, emit_sound, call_sound, if_sound, connect_sound, disconnect_sound, delete_sound, later_sound, group_sound, IsSoundWork}, Values.{HaveTypes}}
@@ -7,10 +7,8 @@ use Rattle.meta_model.specs.declared.object.Statement.TheOpen as layer
 use Rattle.native_slots.{specs.declared.action.Action.{Action}, specs.declared.action.TheConstants.{MOST_ACTIONS}, specs.Plain.{is_of, are_of}, specs.Promises.{Takes, Promises, is_declared}, proofs.PlainValues.{has_of}}
 use Rattle.native_slots.specs.declared.action.Action.TheVariants as action
 use Rattle.object_tree.{specs.declared.life.Life.{Life}, specs.declared.object.Object.{Object}, specs.Objects.{Lives, class_of}, specs.Typed.{AreTyped, ReadsAs, ReadAs}, proofs.TypedObjects.{has-reads}}
-use Rattle.type_check.{specs.Bodies.{IsTypedStatement}, specs.Typed.{IsTypedWork}, proofs.Values.{arguments_have}}
+use Rattle.type_check.{specs.Bodies.{IsTypedStatement}, specs.Typed.{IsTypedWork, IsTypedProgram}, proofs.Values.{arguments_have}}
 use Rattle.effect_scan.specs.declared.node.Node.{Node}
-use Rattle.certificate_lang.specs.declared.certificate.Certificate.{Certificate}
-use Rattle.rank_check.specs.Valid.{IsValid}
 use Rattle.machine_state.specs.{State.{State, Step, Run, Ask, Act, Activation}, Telling.{Alone, Grouped, writes_of}}
 use Rattle.machine_rules.{specs.Operations.{Operation, Write, Begin, Choose, Connect, Disconnect, Delete, Schedule, TakeAnswer, Nothing, on_object, chosen_by, operation, operation_of_set, set_at, sets_in, operation_of_action, operation_of_step}, specs.Natives.{NativeAnswers}, specs.Paths.{path_value, value_of, values_of}, specs.Rules.{Answers}, specs.There.{IsMember}, proofs.Delivered.{fit-of}, proofs.Fields.{member-method}, proofs.Inherited.{method-below, property-below}, proofs.Keeps.{lives-of-class, class-of-lives}, proofs.Promised.{declared-at, promised}}
 use Rattle.object_machine.proofs.{TypedPaths.{Reaches, to_null, to_object}, CheckedRuns.Invariant.{BodyStands, IsStepOf, runs}, CheckedRuns.Promised.{SetsWithin, EmitsWithin, IsWithin, IsPromised, StepIsPromised}, CheckedRuns.PathClasses.{same-class}, CheckedRuns.Lacking.{SetsAreTyped, paths-typed, reached, body-typed, typed-set, sets-done}, CheckedRuns.Leading.{occurs-sound, occurs-in}, Grouped.{IfWrites, within-first}, CheckedRuns.Nodes.{body-named}}
@@ -120,7 +118,7 @@ module _ {p : Loaded} {objects : List Object} (sound : IsSound p) (typed : AreTy
 
 -- ---- bodies
 
-module _ {p : Loaded} {certificate : Certificate} (valid : IsValid p certificate) (sound : IsSound p) (classes : ℕ → Option ℕ) {objects : List Object} (known : (o class : ℕ) → class_of objects o ≡ Some class → classes o ≡ Some class) (typed : AreTyped p objects) {o m : ℕ} {arguments : List Value} {left : List Step} {x : Node} (b : BodyStands p objects o m arguments left x) where
+module _ {p : Loaded} (program : IsTypedProgram p) (sound : IsSound p) (classes : ℕ → Option ℕ) {objects : List Object} (known : (o class : ℕ) → class_of objects o ≡ Some class → classes o ≡ Some class) (typed : AreTyped p objects) {o m : ℕ} {arguments : List Value} {left : List Step} {x : Node} (b : BodyStands p objects o m arguments left x) where
   -- the object whose body it is
   own : (z : Object) × (l : Life) × Lives objects o z l × (l.class ≡ b.class)
   own = lives-of-class objects o b.class b.lives
@@ -148,7 +146,7 @@ module _ {p : Loaded} {certificate : Certificate} (valid : IsValid p certificate
   slot-gives s (runs {body = body} slot occurs) =
       let types = (b.method).types in
       let work = subst (λ (w : Work). IsSoundWork p b.class m types w) slot ((sound.classes b.class (b.is).class (b.is).is_class).methods m b.method (b.is).is).work in
-      let whole = body-typed b.class m work.declaring b.method valid sound b.is work.below work.declares (body-named sound b.class m b.method b.is b.bodied) in
+      let whole = body-typed b.class m work.declaring b.method program sound b.is work.below work.declares (body-named sound b.class m b.method b.is b.bodied) in
       let all = subst (λ (w : Work). IsTypedWork p work.declaring types w) slot whole in
       statement-gives sound typed o work.declaring own.0 own.1 arguments types own.2 (subst (λ (k : ℕ). Below p k work.declaring) (sym own.3) work.below) b.typed (out-Statement s)
       (occurs-sound sound work.declaring types s body work.sound occurs) (all s occurs) (λ sets at u i. all u (occurs-in s sets body occurs at u i))

@@ -65,6 +65,14 @@ pub record BodyStands (p : Loaded) (objects : List Object) (o m : ℕ) (argument
   pub typed : ReadAs p objects arguments method.types
   pub steps : AllByRecursion (IsStepOf method.work) left
 
+-- .. so it does on top of a stack, if it is there
+abbrev pub TopStands : Loaded → List Object → List Activation → Type 0
+TopStands p objects [] = Unit {0}
+TopStands p objects (Body o m arguments left ∷ below) = (x : Node) × BodyStands p objects o m arguments left x
+TopStands p objects (Emit o g arguments used last ∷ below) = Unit {0}
+TopStands p objects (Update places ∷ below) = Unit {0}
+TopStands p objects (Destroy next torn ∷ below) = Unit {0}
+
 -- an emission, at the signal that its spelling names; the object may have died
 pub record EmitStands (classes : ℕ → Option ℕ) (o g : ℕ) (x : Node) : Type 0 where
   pub class : ℕ

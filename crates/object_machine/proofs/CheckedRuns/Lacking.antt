@@ -1,16 +1,14 @@
 -- A body of a typed program never lacks a value.
 use Rattle.std.{proofs.Common.{◌≡◌, ◌<◌, ℕ, true, false, List, [], ◌∷◌, Option, Some, None, slice_get, refl, ap, ◌∙◌, sym, subst, arith}, specs.List.{AllByRecursion, AllZip}, proofs.lemmas.List.Elements.{recursion_from_All}, specs.Option.{option_and_then, option_map}}
 use Rattle.basic_types.specs.{declared.value.Value.{Value}, Values.{truth_has}}
-use Rattle.basic_types.specs.declared.value.Value.TheVariants as value
 use Rattle.syntax_trees.specs.declared.syntax.Expr.{Expr}
 use Rattle.meta_model.specs.{declared.object.MetaPath.{MetaPath}, declared.object.MetaMethod.{MetaMethod}, declared.object.Statement.{Statement}, declared.object.Statement.TheViews.{out-Statement}, declared.object.ValueType.{ValueType}, Loaded.{Loaded}, Members.{IsMethod, Below, Declares, methods_in, method_count}, Sound.{IsSound, LeadsToClass, IsSoundExpr, AreSoundExprs, IsSet, IsSoundSet, AreSound, next_sound, IsSoundStatement, set_sound, emit_sound, call_sound, if_sound, connect_sound, disconnect_sound, delete_sound, later_sound, group_sound}, Values.{Has}, declared.object.MetaObject.{MetaObject}}
 use Rattle.meta_model.specs.declared.object.Statement.TheOpen as layer
 use Rattle.meta_model.specs.declared.object.ValueType.TheVariants as type
 use Rattle.object_tree.{specs.declared.life.Life.{Life}, specs.declared.object.Object.{Object}, specs.Objects.{Lives, class_of}, specs.Typed.{AreTyped, ReadAs, ReadsAs}, proofs.TypedObjects.{has-reads, reads-still}, proofs.Changing.{life-of-lives}}
-use Rattle.type_check.{specs.Bodies.{IsGivenIn, IsTypedSet, IsTypedStatement}, specs.Laws.{PathsAreTyped}, specs.Typed.{IsTypedWork}, proofs.Values.{body_has, arguments_have}}
+use Rattle.type_check.{specs.Bodies.{IsGivenIn, IsTypedSet, IsTypedStatement}, specs.Laws.{PathsAreTyped}, specs.Typed.{IsTypedWork, IsTypedProgram}, proofs.Values.{body_has, arguments_have}}
 use Rattle.effect_scan.specs.{declared.node.Member.TheVariants.{Method}, Nodes.{node, named}, Laws.{IsNode}, Effects.{Occurs, after, here as at_first}}
-use Rattle.certificate_lang.specs.declared.certificate.Certificate.{Certificate}
-use Rattle.rank_check.{specs.Valid.{IsValid}, proofs.Elements.{some_inside}}
+use Rattle.rank_check.proofs.Elements.{some_inside}
 use Rattle.machine_rules.{specs.Operations.{Operation, Write, Begin, led_to, on_object, chosen_by, operation, operation_of_set, set_at, set_in, sets_in, after_set}, specs.Paths.{path_value, value_of, values_of}, proofs.Fields.{method-unique}, proofs.Inherited.{method-below, property-below}, proofs.Differing.{differ-stay}}
 use Rattle.object_machine.proofs.{CheckedRuns.Nodes.{named-node}, TypedPaths.{Reaches, to_null, to_object, path-has, path-reaches}, Grouped.{IfWrites, Within, within-first, within-next, reaches-within, set-act, values-still}, CheckedRuns.PathClasses.{same-class}}
 use Rattle.machine_state.specs.Telling.{Grouped, writes_of}
@@ -151,13 +149,13 @@ module _ {p : Loaded} {objects : List Object} (sound : IsSound p) (typed : AreTy
 -- ---- bodies
 
 -- the body of a method is typed, where it is declared
-pub body-typed : {p : Loaded} {certificate : Certificate} (c m d : ℕ) (method : MetaMethod) → IsValid p certificate → IsSound p → IsMethod p c m method → Below p c d → Declares p d m → named m ≡ m → IsTypedWork p d method.types method.work
-body-typed {p} c m d method valid sound is below declares same =
+pub body-typed : {p : Loaded} (c m d : ℕ) (method : MetaMethod) → IsTypedProgram p → IsSound p → IsMethod p c m method → Below p c d → Declares p d m → named m ≡ m → IsTypedWork p d method.types method.work
+body-typed {p} c m d method program sound is below declares same =
     let place = named-node sound c m method is in
     let here = subst (λ (n : ℕ). IsNode p (node c (Method n))) same place in
     let there = declared-method p d m declares.within in
     let equal = method-unique (method-below sound below there.1) is in
-    subst (λ (k : MetaMethod). IsTypedWork p d k.types k.work) equal ((valid.typed).nodes here.0 (node c (Method m)) here.1 d there.0 below declares there.1)
+    subst (λ (k : MetaMethod). IsTypedWork p d k.types k.work) equal (program.nodes here.0 (node c (Method m)) here.1 d there.0 below declares there.1)
   where
     found-method : (p : Loaded) (d m : ℕ) (found : Option MetaObject) → slice_get p.classes d ≡ found → m < methods_in found → (k : MetaMethod) × IsMethod p d m k
     found-method p d m None at low = absurd (omega (arith, low))

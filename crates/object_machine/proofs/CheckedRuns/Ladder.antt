@@ -12,11 +12,20 @@ use Rattle.effect_scan.proofs.Standing.{join_nodes}
 use Rattle.certificate_lang.specs.declared.certificate.Line.{Line}
 use Rattle.certificate_lang.specs.declared.certificate.Certificate.{Certificate}
 use Rattle.rank_check.specs.Valid.{IsLineOf, IsValid}
-use Rattle.machine_state.specs.State.{Activation}
-use Rattle.object_machine.proofs.CheckedRuns.Invariant.{AtNode, NodeLevel, Falls, IsNoHigher, Level, FallsTo, Stacked}
+use Rattle.machine_state.specs.State.{Activation, Body, Emit, Update, Destroy}
+use Rattle.object_machine.proofs.CheckedRuns.Invariant.{AtNode, NodeLevel, Falls, IsNoHigher, Level, FallsTo, TopStands, Stacked}
 
 pub higher-none : {p : Loaded} {a b c : Line} → IsNoHigher p a b → Falls p b c → Falls p a c
 higher-none {c = c} up f = record { rank = omega (arith, up.rank, f.rank); set = λ d none. f.set d (up.set d none) }
+
+-- what is on top of a stack stands
+pub top-stands : (p : Loaded) {certificate : Certificate} (classes : ℕ → Option ℕ) (objects : List Object) (stack : List Activation) (levels : List (Level certificate)) → Stacked p classes objects stack levels → TopStands p objects stack
+top-stands p classes objects [] levels st = tt
+top-stands p classes objects (a ∷ below) [] st = absurd st
+top-stands p classes objects (Body o m arguments left ∷ below) (r ∷ levels) st = ((st.0).node, (st.0).stands)
+top-stands p classes objects (Emit o g arguments used last ∷ below) (r ∷ levels) st = tt
+top-stands p classes objects (Update places ∷ below) (r ∷ levels) st = tt
+top-stands p classes objects (Destroy next torn ∷ below) (r ∷ levels) st = tt
 
 pub no-higher-self : {p : Loaded} {a : Line} → IsNoHigher p a a
 no-higher-self = record { rank = omega arith; set = λ d none. none }

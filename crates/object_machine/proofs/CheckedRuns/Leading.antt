@@ -1,24 +1,23 @@
--- What a step of a body does, its method may lead to.
+-- What a step of a body does, its method may lead to, by an effect of the step.
 use Rattle.std.{proofs.Common.{◌≡◌, ◌≢◌, ◌⊎◌, inl, inr, ℕ, suc, ◌-◌, Bool, true, false, List, [], ◌∷◌, length, Option, Some, None, slice_get, refl, sym, ap, ◌∙◌, subst, arith}, specs.Prelude.{IfSome}, specs.List.{AllByRecursion}, specs.Option.{option_and_then, option_map}, proofs.lemmas.Option.{same_Some, none-some}, proofs.lemmas.List.Elements.{All-contains, recursion_from_All}}
 use Rattle.basic_types.specs.declared.value.Value.{Value}
 use Rattle.basic_types.specs.declared.value.Value.TheVariants as value
 use Rattle.syntax_trees.specs.declared.syntax.Expr.{Expr}
-use Rattle.meta_model.specs.{declared.effects.MetaEffects.{MetaEffects}, declared.object.MetaPath.{MetaPath}, declared.object.MetaRoot.{MetaRoot}, declared.object.MetaRoot.TheVariants.{This, Parameter}, declared.object.Step.{Step as PathStep}, declared.object.Statement.{Statement}, declared.object.Statement.TheViews.{out-Statement}, declared.object.ValueType.{ValueType}, declared.object.Work.{Work}, declared.object.Work.TheVariants.{Slot, Native}, Loaded.{Loaded}, Members.{Below, same as below-itself}, Sound.{IsSound, HasRoot, this_has, parameter_has, Leads, here, on, LeadsToClass, IsSet, AreSets, IsSoundSet, IsSoundStatement, set_sound, emit_sound, call_sound, if_sound, connect_sound, disconnect_sound, delete_sound, later_sound, group_sound, AreSound, next_sound, IsSoundWork, IsPlainSignal}}
+use Rattle.meta_model.specs.{declared.effects.MetaEffects.{MetaEffects}, declared.object.MetaMethod.{MetaMethod}, declared.object.MetaPath.{MetaPath}, declared.object.MetaRoot.{MetaRoot}, declared.object.MetaRoot.TheVariants.{This, Parameter}, declared.object.Step.{Step as PathStep}, declared.object.Statement.{Statement}, declared.object.Statement.TheViews.{out-Statement}, declared.object.ValueType.{ValueType}, declared.object.Work.{Work}, declared.object.Work.TheVariants.{Signal, Slot, Native}, Loaded.{Loaded}, Members.{Below, same as below-itself}, Sound.{IsSound, HasRoot, this_has, parameter_has, Leads, here, on, LeadsToClass, IsSet, AreSets, IsSoundSet, IsSoundStatement, set_sound, emit_sound, call_sound, if_sound, connect_sound, disconnect_sound, delete_sound, later_sound, group_sound, AreSound, next_sound, IsSoundWork, IsPlainSignal}}
 use Rattle.meta_model.specs.declared.object.Statement.TheOpen as layer
 use Rattle.meta_model.specs.declared.object.ValueType.TheVariants as type
 use Rattle.native_slots.specs.declared.action.Action.{Action}
 use Rattle.native_slots.specs.declared.action.Action.TheVariants as action
 use Rattle.object_tree.{specs.declared.life.Life.{Life}, specs.declared.object.Object.{Object}, specs.Objects.{Lives}, specs.Seen.{seen, seen_object, seen_reference}, specs.Typed.{AreTyped}, proofs.Changing.{life-of-lives}}
-use Rattle.effect_scan.specs.{declared.node.Node.{Node}, declared.node.Member.{Member}, declared.node.Member.TheVariants.{Method, Property, Destruction}, declared.effect.Reach.{Reach}, declared.effect.Effect.{Effect}, Nodes.{node, named}, Effects.{reach_of_type, reach_of_root, reach_after, reach_of, effect_of, Occurs, here as first, after, chosen, otherwise, grouped, WorkHas}, Edges.{ReachedAs, MayLead, by_work}}
+use Rattle.effect_scan.specs.{declared.node.Node.{Node}, declared.node.Member.{Member}, declared.node.Member.TheVariants.{Method, Property, Destruction}, declared.effect.Reach.{Reach}, declared.effect.Effect.{Effect}, Nodes.{node, named}, Effects.{reach_of_type, reach_of_root, reach_after, reach_of, effect_of, Occurs, here as first, after, chosen, otherwise, grouped, WorkHas}, Edges.{ReachedAs, MayLead, by_work, ByWork}}
 use Rattle.effect_scan.specs.declared.effect.Reach.TheVariants as reach
-use Rattle.rank_check.{proofs.Elements.{element_at}, specs.Valid.{IsValid}}
+use Rattle.rank_check.proofs.Elements.{element_at}
 use Rattle.machine_state.specs.{State.{Step, Run, Ask, Act}, Telling.{Alone, Grouped, writes_of}}
 use Rattle.machine_rules.{specs.Operations.{Operation, Write, Begin, Choose, Connect, Disconnect, Delete, Schedule, TakeAnswer, Nothing, led_to, on_object, operation_of_set, set_at, set_in, sets_in, after_set, chosen_by, operation, operation_of_action, operation_of_step}, specs.Paths.{path_value, steps_value, root_value, value_of, values_of}, proofs.Fields.{life-unique}, proofs.Keeps.{lives-of-class}, proofs.Differing.{differ-class}}
 use Rattle.object_machine.proofs.{TypedPaths.{Reaches, to_null, to_object, path-reaches}, CheckedRuns.Lacking.{body-typed, sets-done}, Grouped.{IfWrites, Within, within-first, within-next, mapped-so, values-still}, CheckedRuns.Invariant.{BodyStands, IsStepOf, runs, asks, acts}, CheckedRuns.Nodes.{body-named, late-named}}
 use Rattle.prop_bindings.{specs.declared.plans.assignment.Assignment.{Assignment}, specs.Calls.{AllFit}, specs.Changes.{DifferInValues}, proofs.Alive.{lives-on}}
 use Rattle.binding_graph.specs.Places.{property_of}
-use Rattle.type_check.specs.{Bodies.{IsTypedStatement}, Typed.{IsTypedWork}}
-use Rattle.certificate_lang.specs.declared.certificate.Certificate.{Certificate}
+use Rattle.type_check.specs.{Bodies.{IsTypedStatement}, Typed.{IsTypedWork, IsTypedProgram}}
 
 -- ---- the objects that paths lead to
 
@@ -90,17 +89,48 @@ group-parts {p} {me} {types} f sets all at = of_group (subst (IsSoundStatement p
     of_group (group_sound is only) = (is, only)
 
 -- what is in a group is in the body
-pub occurs-in : (t : Statement) (sets whole : List Statement) → Occurs t whole → out-Statement t ≡ layer.Group sets → (u : Statement) → Occurs u sets → Occurs u whole
+abbrev pub occurs-in : (t : Statement) (sets whole : List Statement) → Occurs t whole → out-Statement t ≡ layer.Group sets → (u : Statement) → Occurs u sets → Occurs u whole
 occurs-in t sets whole first at u i = grouped at i
 occurs-in t sets whole (after rest) at u i = after (occurs-in t sets _ rest at u i)
 occurs-in t sets whole (chosen is rest) at u i = chosen is (occurs-in t sets _ rest at u i)
 occurs-in t sets whole (otherwise is rest) at u i = otherwise is (occurs-in t sets _ rest at u i)
 occurs-in t sets whole (grouped is rest) at u i = grouped is (occurs-in t sets _ rest at u i)
 
-module _ {p : Loaded} (sound : IsSound p) {objects : List Object} (typed : AreTyped p objects) {o m : ℕ} {arguments : List Value} {left : List Step} {x : Node} (b : BodyStands p objects o m arguments left x) where
+-- ---- the edges that a step draws
+
+-- the statement that occurs there is run by the step: it is the step's own, or a set of the step's group
+pub data IsRunBy (body : List Statement) : Step → (s : Statement) → Occurs s body → Type 0 where
+  by_itself : {s : Statement} {at : Occurs s body} → IsRunBy body (Run s) s at
+  by_group : {g s : Statement} {sets : List Statement} (at : Occurs g body) (is : out-Statement g ≡ layer.Group sets) (i : Occurs s sets) → IsRunBy body (Run g) s (occurs-in g sets body at is s i)
+
+-- the effect is one of a statement that the step runs, or of a native
+abbrev pub IsEffectOf : Step → (types : List ValueType) (work : Work) (effect : Effect) → WorkHas types work effect → Type 0
+IsEffectOf step types Signal effect has = ⊥
+IsEffectOf step types (Slot body) effect has = IsRunBy body step has.statement has.occurs
+IsEffectOf step types (Native effects) effect has = Unit {0}
+
+-- it reaches this node, from an object of the class
+pub record Draws (p : Loaded) (class : ℕ) (method : MetaMethod) (step : Step) (y : Node) : Type 0 where
+  pub effect : Effect
+  pub has : WorkHas method.types method.work effect
+  pub own : IsEffectOf step method.types method.work effect has
+  pub to : ReachedAs p class effect.member effect.reach y
+
+module _ {p : Loaded} {objects : List Object} {o m : ℕ} {arguments : List Value} {left : List Step} {x : Node} (b : BodyStands p objects o m arguments left x) where
+  -- that is a way from the body's node
+  abbrev pub way-drawn : {step : Step} {y : Node} → Draws p b.class b.method step y → ByWork p (node b.class (Method m)) y
+  way-drawn d = record { number = m; method = b.method; is = b.is; from = refl; effect = d.effect; has = d.has; to = d.to }
+
+  pub leads-drawn : {step : Step} {y : Node} → Draws p b.class b.method step y → MayLead p x y
+  leads-drawn {y = y} d = subst (λ (z : Node). MayLead p z y) (sym b.at) (by_work (way-drawn d))
+
+module _ {p : Loaded} (sound : IsSound p) {objects : List Object} (typed : AreTyped p objects) {o m : ℕ} {arguments : List Value} {left : List Step} {x : Node} (b : BodyStands p objects o m arguments left x) (step : Step) where
+  abbrev pub LeadsTo : Node → Type 0
+  LeadsTo y = Draws p b.class b.method step y
+
   -- an edge from the body's method to a member of the object's class
   abbrev pub LeadsToMember : ℕ → Member → Type 0
-  LeadsToMember y member = (z : Object) (k : Life) → Lives objects y z k → MayLead p x (node k.class member)
+  LeadsToMember y member = (z : Object) (k : Life) → Lives objects y z k → LeadsTo (node k.class member)
 
   -- .. to the property that is written
   abbrev pub Writable : Assignment → Type 0
@@ -108,7 +138,7 @@ module _ {p : Loaded} (sound : IsSound p) {objects : List Object} (typed : AreTy
 
   -- what a step does, the method may lead to; the block that is chosen is part of the body
   abbrev pub IsLed : Operation → Type 0
-  IsLed (Write what) = ((y : Node) × MayLead p x y) × AllByRecursion Writable (writes_of what)
+  IsLed (Write what) = ((y : Node) × LeadsTo y) × AllByRecursion Writable (writes_of what)
   IsLed (Begin y n given) = LeadsToMember y (Method n) × (named n ≡ n)
   IsLed (Choose block) = (body : List Statement) × ((b.method).work ≡ Slot body) × ((s : Statement) → Occurs s block → Occurs s body)
   IsLed (Connect ends how) = Unit {0}
@@ -118,9 +148,14 @@ module _ {p : Loaded} (sound : IsSound p) {objects : List Object} (typed : AreTy
   IsLed (TakeAnswer effects) = (b.method).work ≡ Native effects
   IsLed Nothing = Unit {0}
 
-  by-effect : (effect : Effect) (y : Node) → WorkHas (b.method).types (b.method).work effect → ReachedAs p b.class effect.member effect.reach y → MayLead p x y
-  by-effect effect y has to =
-      subst (λ (z : Node). MayLead p z y) (sym b.at) (by_work (record { number = m; method = b.method; is = b.is; from = refl; effect = effect; has = has; to = to }))
+  -- the method has an effect of the step
+  abbrev HasOwn : Work → Effect → Type 0
+  HasOwn work effect = (has : WorkHas (b.method).types work effect) × IsEffectOf step (b.method).types work effect has
+
+  by-effect : (effect : Effect) (y : Node) (work : Work) → (b.method).work ≡ work → HasOwn work effect → ReachedAs p b.class effect.member effect.reach y → LeadsTo y
+  by-effect effect y work is has to =
+      let own_effect = subst (λ (w : Work). HasOwn w effect) (sym is) has in
+      record { effect = effect; has = own_effect.0; own = own_effect.1; to = to }
 
   -- the object itself lives this life
   own : (object : Object) × (life : Life) × Lives objects o object life × (life.class ≡ b.class)
@@ -168,7 +203,7 @@ module _ {p : Loaded} (sound : IsSound p) {objects : List Object} (typed : AreTy
   map-led act None all = tt
   map-led act (Some v) all = all v
 
-  alone-led : (y : Node) × MayLead p x y → (found : Option (Option Assignment)) → IfSome found (IfWrites Writable) → IfSome (option_map operation_of_set found) IsLed
+  alone-led : (y : Node) × LeadsTo y → (found : Option (Option Assignment)) → IfSome found (IfWrites Writable) → IfSome (option_map operation_of_set found) IsLed
   alone-led leads None led = tt
   alone-led leads (Some None) led = tt
   alone-led leads (Some (Some a)) led = (leads, (led, tt))
@@ -181,17 +216,16 @@ module _ {p : Loaded} (sound : IsSound p) {objects : List Object} (typed : AreTy
   chosen-led block other (Some (value.Text n)) one two = tt
   chosen-led block other (Some (value.Ref n)) one two = tt
 
-  module _ (body : List Statement) (slot : (b.method).work ≡ Slot body) (s : Statement) (occurs : Occurs s body) (me : ℕ) (under : Below p b.class me) where
+  module _ (body : List Statement) (slot : (b.method).work ≡ Slot body) (s : Statement) (occurs : Occurs s body) (ours : IsRunBy body step s occurs) (me : ℕ) (under : Below p b.class me) where
     -- what a statement does
-    statement-effect : (effect : Effect) (y : Node) → effect_of (b.method).types (out-Statement s) ≡ Some effect → ReachedAs p b.class effect.member effect.reach y → MayLead p x y
-    statement-effect effect y is to =
-        by-effect effect y (subst (λ (w : Work). WorkHas (b.method).types w effect) (sym slot) (record { statement = s; occurs = occurs; is = is })) to
+    statement-effect : (effect : Effect) (y : Node) → effect_of (b.method).types (out-Statement s) ≡ Some effect → ReachedAs p b.class effect.member effect.reach y → LeadsTo y
+    statement-effect effect y is to = by-effect effect y (Slot body) slot (record { statement = s; occurs = occurs; is = is }, ours) to
 
     path-member : (path : MetaPath) (member : Member) {c : ℕ} → LeadsToClass p me (b.method).types path c → ((r : Reach) → reach_of (b.method).types path ≡ Some r → effect_of (b.method).types (out-Statement s) ≡ Some (record { reach = r; member = member }))
         → (y : ℕ) (z : Object) (k : Life) → path_value objects o arguments path ≡ Some (value.Ref (Some y)) → Lives objects y z k → Below p k.class c → LeadsToMember y member
     path-member path member leads effect y z k is lives beneath = λ z' k' lives'.
         let led = path-led me under path leads y z k is lives beneath in
-        subst (λ (l : Life). MayLead p x (node l.class member)) (life-unique lives lives') (statement-effect (record { reach = led.0; member = member }) (node k.class member) (effect led.0 led.1) (led.2 member))
+        subst (λ (l : Life). LeadsTo (node l.class member)) (life-unique lives lives') (statement-effect (record { reach = led.0; member = member }) (node k.class member) (effect led.0 led.1) (led.2 member))
 
     within : (t : Statement) (e : Expr MetaPath) (block other : List Statement) (whole : List Statement) → Occurs t whole → out-Statement t ≡ layer.If e block other → ((u : Statement) → Occurs u block → Occurs u whole) × ((u : Statement) → Occurs u other → Occurs u whole)
     within t e block other whole first at = (λ u i. chosen at i, λ u i. otherwise at i)
@@ -201,7 +235,7 @@ module _ {p : Loaded} (sound : IsSound p) {objects : List Object} (typed : AreTy
     within t e block other whole (grouped is i) at = let r = within t e block other _ i at in (λ u j. grouped is (r.0 u j), λ u j. grouped is (r.1 u j))
 
     -- a set draws an edge to a property, whatever its path leads to
-    set-node : (path : MetaPath) (q : ℕ) (e : Expr MetaPath) → out-Statement s ≡ layer.Set path q e → IsSoundSet p me (b.method).types path q e → (y : Node) × MayLead p x y
+    set-node : (path : MetaPath) (q : ℕ) (e : Expr MetaPath) → out-Statement s ≡ layer.Set path q e → IsSoundSet p me (b.method).types path q e → (y : Node) × LeadsTo y
     set-node path q e at is =
         let of : (r : Reach) → reach_of (b.method).types path ≡ Some r → effect_of (b.method).types (out-Statement s) ≡ Some (record { reach = r; member = Property q }) =
         λ r e'. ap (effect_of (b.method).types) at ∙ ap (option_map (λ (r' : Reach). record { reach = r'; member = Property q })) e' in
@@ -254,10 +288,9 @@ module _ {p : Loaded} (sound : IsSound p) {objects : List Object} (typed : AreTy
       given : (found : Option ℕ) → slice_get effects.sets k ≡ found → IfSome (option_map (λ (q : ℕ). Write (Alone (property_of o q) v)) found) IsLed
       given None is = tt
       given (Some q) is =
-          let has : WorkHas (b.method).types (b.method).work (record { reach = reach.Own; member = Property q }) =
-          subst (λ (w : Work). WorkHas (b.method).types w (record { reach = reach.Own; member = Property q })) (sym native) (inr (record { number = q; among = element_at effects.sets k q is; is = refl })) in (
-            (node b.class (Property q), by-effect (record { reach = reach.Own; member = Property q }) (node b.class (Property q)) has refl),
-            (λ z l lives. by-effect (record { reach = reach.Own; member = Property q }) (node l.class (Property q)) has (own-reached (Property q) z l lives), tt),
+          let has : HasOwn (Native effects) (record { reach = reach.Own; member = Property q }) = (inr (record { number = q; among = element_at effects.sets k q is; is = refl }), tt) in (
+            (node b.class (Property q), by-effect (record { reach = reach.Own; member = Property q }) (node b.class (Property q)) (Native effects) native has refl),
+            (λ z l lives. by-effect (record { reach = reach.Own; member = Property q }) (node l.class (Property q)) (Native effects) native has (own-reached (Property q) z l lives), tt),
           )
   action-led effects (action.Emit k given) native = by_signal (slice_get effects.emits k) refl
     where
@@ -270,9 +303,8 @@ module _ {p : Loaded} (sound : IsSound p) {objects : List Object} (typed : AreTy
       by_signal : (found : Option ℕ) → slice_get effects.emits k ≡ found → IfSome (option_map (λ (g : ℕ). Begin o g given) found) IsLed
       by_signal None is = tt
       by_signal (Some g) is = (
-        λ z l lives. by-effect (record { reach = reach.Own; member = Method g }) (node l.class (Method g))
-            (subst (λ (w : Work). WorkHas (b.method).types w (record { reach = reach.Own; member = Method g })) (sym native) (inl (record { number = g; among = element_at effects.emits k g is; is = refl })))
-            (own-reached (Method g) z l lives),
+        λ z l lives. by-effect (record { reach = reach.Own; member = Method g }) (node l.class (Method g)) (Native effects) native
+            (inl (record { number = g; among = element_at effects.emits k g is; is = refl }), tt) (own-reached (Method g) z l lives),
         late g is,
       )
 
@@ -292,7 +324,7 @@ module _ {p : Loaded} (sound : IsSound p) {objects : List Object} {o m : ℕ} {a
     steps = b.steps;
   }
 
-  module _ (typed : AreTyped p objects) (body : List Statement) (slot : (b.method).work ≡ Slot body) (me : ℕ) (under : Below p b.class me) where
+  module _ (typed : AreTyped p objects) (step : Step) (body : List Statement) (slot : (b.method).work ≡ Slot body) (me : ℕ) (under : Below p b.class me) where
     itself-lives : (object : Object) × (life : Life) × Lives objects o object life × (life.class ≡ b.class)
     itself-lives = lives-of-class objects o b.class b.lives
 
@@ -301,79 +333,83 @@ module _ {p : Loaded} (sound : IsSound p) {objects : List Object} {o m : ℕ} {a
     Read now = Within sound objects o me itself-lives.0 itself-lives.1 arguments (b.method).types itself-lives.2 (subst (λ (k : ℕ). Below p k me) (sym itself-lives.3) under) b.typed now
 
     -- what leads to a property there leads to it here
-    led-back : {now : List Object} (w : Read now) (a : Assignment) → Writable sound w.typed (body-now w.differ) a → Writable sound typed b a
+    led-back : {now : List Object} (w : Read now) (a : Assignment) → Writable sound w.typed (body-now w.differ) step a → Writable sound typed b step a
     led-back {now} w a led z k lives =
         let on = lives-on objects now w.differ a.place.object k (life-of-lives lives) in
-        subst (λ (c : ℕ). MayLead p x (node c (Property a.place.property))) on.same (led on.object on.life on.lives)
+        subst (λ (c : ℕ). Draws p b.class b.method step (node c (Property a.place.property))) on.same (led on.object on.life on.lives)
 
-    set-led-now : {now : List Object} (w : Read now) (s : Statement) → Occurs s body → IsSet s → IsSoundStatement p me (b.method).types (out-Statement s) → (done : Option Assignment) → set_in now o arguments (out-Statement s) ≡ Some done → IfWrites (Writable sound typed b) done
-    set-led-now w s occurs set is None at = tt
-    set-led-now {now} w s occurs set is (Some a) at =
+    -- the statement is part of the body, and the step runs it
+    abbrev RunsThere : Statement → Type 0
+    RunsThere s = (at : Occurs s body) × IsRunBy body step s at
+
+    set-led-now : {now : List Object} (w : Read now) (s : Statement) → RunsThere s → IsSet s → IsSoundStatement p me (b.method).types (out-Statement s) → (done : Option Assignment) → set_in now o arguments (out-Statement s) ≡ Some done → IfWrites (Writable sound typed b step) done
+    set-led-now w s there set is None at = tt
+    set-led-now {now} w s there set is (Some a) at =
         let set_is = sound-parts-of (out-Statement s) set.path set.property set.value is set.is in
-        let led = set-led sound w.typed (body-now w.differ) body slot s occurs me under set.path set.property set.value set.is set_is in
+        let led = set-led sound w.typed (body-now w.differ) step body slot s there.0 there.1 me under set.path set.property set.value set.is set_is in
         let written : set_at now o arguments set.path set.property set.value ≡ Some (Some a) = ap (set_in now o arguments) (sym set.is) ∙ at in
-        led-back w a (subst (λ (found : Option (Option Assignment)). IfSome found (IfWrites (Writable sound w.typed (body-now w.differ)))) written led)
+        led-back w a (subst (λ (found : Option (Option Assignment)). IfSome found (IfWrites (Writable sound w.typed (body-now w.differ) step))) written led)
 
     -- the body's node leads to each property that the sets write
     abbrev ArePlacesLed : List Statement → List Object → Type 0
-    ArePlacesLed sets now = (found : List (Option Assignment)) → sets_in now o arguments sets ≡ Some found → AllFit p objects (writes_of (Grouped found)) → AllByRecursion (Writable sound typed b) (writes_of (Grouped found))
+    ArePlacesLed sets now = (found : List (Option Assignment)) → sets_in now o arguments sets ≡ Some found → AllFit p objects (writes_of (Grouped found)) → AllByRecursion (Writable sound typed b step) (writes_of (Grouped found))
 
-    sets-led : (sets : List Statement) → ((u : Statement) → Occurs u sets → Occurs u body) → AreSound p me (b.method).types sets → AllByRecursion IsSet sets → {now : List Object} → Read now → ArePlacesLed sets now
+    sets-led : (sets : List Statement) → ((u : Statement) → Occurs u sets → RunsThere u) → AreSound p me (b.method).types sets → AllByRecursion IsSet sets → {now : List Object} → Read now → ArePlacesLed sets now
     sets-led [] inside all only w [] is fit = tt
     sets-led [] inside all only w (d ∷ found) is fit = absurd (cc is)
     sets-led (s ∷ sets) inside (next_sound one rest) only {now} w found is fit =
         by_first (λ next others. sets-led sets (λ u i. inside u (after i)) rest only.1 others) (set_in now o arguments (out-Statement s)) refl is
       where
-        by_more : ((next : List Object) → Read next → ArePlacesLed sets next) → (first : Option Assignment) → set_in now o arguments (out-Statement s) ≡ Some first → (more : Option (List (Option Assignment))) → sets_in (after_set first now) o arguments sets ≡ more → option_map (λ (l : List (Option Assignment)). first ∷ l) more ≡ Some found → AllByRecursion (Writable sound typed b) (writes_of (Grouped found))
+        by_more : ((next : List Object) → Read next → ArePlacesLed sets next) → (first : Option Assignment) → set_in now o arguments (out-Statement s) ≡ Some first → (more : Option (List (Option Assignment))) → sets_in (after_set first now) o arguments sets ≡ more → option_map (λ (l : List (Option Assignment)). first ∷ l) more ≡ Some found → AllByRecursion (Writable sound typed b step) (writes_of (Grouped found))
         by_more again d at None others e = absurd (cc e)
         by_more again None at (Some more) others e =
             let found_is : None ∷ more ≡ found = cc e in
             let fits : AllFit p objects (writes_of (Grouped more)) = subst (λ (l : List (Option Assignment)). AllFit p objects (writes_of (Grouped l))) (sym found_is) fit in
-            subst (λ (l : List (Option Assignment)). AllByRecursion (Writable sound typed b) (writes_of (Grouped l))) found_is (again now w more others fits)
+            subst (λ (l : List (Option Assignment)). AllByRecursion (Writable sound typed b step) (writes_of (Grouped l))) found_is (again now w more others fits)
         by_more again (Some a) at (Some more) others e =
             let found_is : Some a ∷ more ≡ found = cc e in
             let fits : AllFit p objects (writes_of (Grouped (Some a ∷ more))) = subst (λ (l : List (Option Assignment)). AllFit p objects (writes_of (Grouped l))) (sym found_is) fit in
             let next = within-next sound objects o me itself-lives.0 itself-lives.1 arguments (b.method).types itself-lives.2 (subst (λ (k : ℕ). Below p k me) (sym itself-lives.3) under) b.typed w a fits.0 in
-            subst (λ (l : List (Option Assignment)). AllByRecursion (Writable sound typed b) (writes_of (Grouped l))) found_is
+            subst (λ (l : List (Option Assignment)). AllByRecursion (Writable sound typed b step) (writes_of (Grouped l))) found_is
             (set-led-now w s (inside s first) only.0 one (Some a) at, again (after_set (Some a) now) next more others fits.1)
 
-        by_first : ((next : List Object) → Read next → ArePlacesLed sets next) → (first_done : Option (Option Assignment)) → set_in now o arguments (out-Statement s) ≡ first_done → option_and_then (λ (d : Option Assignment). option_map (λ (l : List (Option Assignment)). d ∷ l) (sets_in (after_set d now) o arguments sets)) first_done ≡ Some found → AllByRecursion (Writable sound typed b) (writes_of (Grouped found))
+        by_first : ((next : List Object) → Read next → ArePlacesLed sets next) → (first_done : Option (Option Assignment)) → set_in now o arguments (out-Statement s) ≡ first_done → option_and_then (λ (d : Option Assignment). option_map (λ (l : List (Option Assignment)). d ∷ l) (sets_in (after_set d now) o arguments sets)) first_done ≡ Some found → AllByRecursion (Writable sound typed b step) (writes_of (Grouped found))
         by_first again None at e = absurd (cc e)
         by_first again (Some d) at e = by_more again d at (sets_in (after_set d now) o arguments sets) refl e
 
     -- a group is led by its first set
-    group-led : (sets : List Statement) → ((u : Statement) → Occurs u sets → Occurs u body) → AreSound p me (b.method).types sets → AreSets sets → ((u : Statement) → Occurs u sets → IsTypedStatement p me (b.method).types (out-Statement u)) → IfSome (option_map (λ (found : List (Option Assignment)). Write (Grouped found)) (sets_in objects o arguments sets)) (IsLed sound typed b)
+    group-led : (sets : List Statement) → ((u : Statement) → Occurs u sets → RunsThere u) → AreSound p me (b.method).types sets → AreSets sets → ((u : Statement) → Occurs u sets → IsTypedStatement p me (b.method).types (out-Statement u)) → IfSome (option_map (λ (found : List (Option Assignment)). Write (Grouped found)) (sets_in objects o arguments sets)) (IsLed sound typed b step)
     group-led sets within all only t =
         let below = subst (λ (k : ℕ). Below p k me) (sym itself-lives.3) under in
         let first_read : Read objects = within-first sound objects o me itself-lives.0 itself-lives.1 arguments (b.method).types itself-lives.2 below b.typed typed in
         let each = recursion_from_All IsSet sets only.1 in
         let done = sets-done sound typed o me itself-lives.0 itself-lives.1 arguments (b.method).types itself-lives.2 below b.typed sets all each t first_read in
-        let led : IsLed sound typed b (Write (Grouped done.0)) = (first-led sets only.0 within all each, sets-led sets within all each first_read done.0 done.1 done.2) in
-        subst (λ (found : Option (List (Option Assignment))). IfSome (option_map (λ (l : List (Option Assignment)). Write (Grouped l)) found) (IsLed sound typed b)) (sym done.1) led
+        let led : IsLed sound typed b step (Write (Grouped done.0)) = (first-led sets only.0 within all each, sets-led sets within all each first_read done.0 done.1 done.2) in
+        subst (λ (found : Option (List (Option Assignment))). IfSome (option_map (λ (l : List (Option Assignment)). Write (Grouped l)) found) (IsLed sound typed b step)) (sym done.1) led
       where
-        first-led : (sets : List Statement) → sets ≢ [] → ((u : Statement) → Occurs u sets → Occurs u body) → AreSound p me (b.method).types sets → AllByRecursion IsSet sets → (y : Node) × MayLead p x y
+        first-led : (sets : List Statement) → sets ≢ [] → ((u : Statement) → Occurs u sets → RunsThere u) → AreSound p me (b.method).types sets → AllByRecursion IsSet sets → (y : Node) × Draws p b.class b.method step y
         first-led [] some within all each = absurd (some refl)
         first-led (s ∷ rest) some within (next_sound one more) each =
             let set = each.0 in
-            set-node sound typed b body slot s (within s first) me under set.path set.property set.value set.is (sound-parts-of (out-Statement s) set.path set.property set.value one set.is)
+            let there = within s first in
+            set-node sound typed b step body slot s there.0 there.1 me under set.path set.property set.value set.is (sound-parts-of (out-Statement s) set.path set.property set.value one set.is)
 
 -- ---- steps
 
-module _ {p : Loaded} {certificate : Certificate} (valid : IsValid p certificate) (sound : IsSound p) {objects : List Object} (typed : AreTyped p objects) {o m : ℕ} {arguments : List Value} {left : List Step} {x : Node} (b : BodyStands p objects o m arguments left x) where
-  step-led : (y : Step) → IsStepOf (b.method).work y → IfSome (operation_of_step objects o arguments y) (IsLed sound typed b)
+module _ {p : Loaded} (program : IsTypedProgram p) (sound : IsSound p) {objects : List Object} (typed : AreTyped p objects) {o m : ℕ} {arguments : List Value} {left : List Step} {x : Node} (b : BodyStands p objects o m arguments left x) where
+  step-led : (y : Step) → IsStepOf (b.method).work y → IfSome (operation_of_step objects o arguments y) (IsLed sound typed b y)
   step-led (Run s) (runs {body = body} slot occurs) =
       let types = (b.method).types in
       let work = subst (λ (w : Work). IsSoundWork p b.class m types w) slot ((sound.classes b.class (b.is).class (b.is).is_class).methods m b.method (b.is).is).work in
-      let whole = body-typed b.class m work.declaring b.method valid sound b.is work.below work.declares (body-named sound b.class m b.method b.is b.bodied) in
+      let whole = body-typed b.class m work.declaring b.method program sound b.is work.below work.declares (body-named sound b.class m b.method b.is b.bodied) in
       let all = subst (λ (w : Work). IsTypedWork p work.declaring types w) slot whole in
       let here_sound = occurs-sound sound work.declaring types s body work.sound occurs in
-      statement-led sound typed b body slot s occurs work.declaring work.below (out-Statement s) refl here_sound
+      statement-led sound typed b (Run s) body slot s occurs by_itself work.declaring work.below (out-Statement s) refl here_sound
       (λ sets at.
       let parts = group-parts (out-Statement s) sets here_sound at in
-      let inside = occurs-in s sets body occurs at in
-      group-led sound b typed body slot work.declaring work.below sets inside parts.0 parts.1 (λ u i. all u (inside u i)))
+      group-led sound b typed (Run s) body slot work.declaring work.below sets (λ u i. (occurs-in s sets body occurs at u i, by_group occurs at i)) parts.0 parts.1 (λ u i. all u (occurs-in s sets body occurs at u i)))
   step-led (Ask effects) (asks native) = native
-  step-led (Act effects it) (acts native) = action-led sound typed b effects it native
+  step-led (Act effects it) (acts native) = action-led sound typed b (Act effects it) effects it native
 
-  pub does-led : (y : Step) (d : Operation) → IsStepOf (b.method).work y → operation_of_step objects o arguments y ≡ Some d → IsLed sound typed b d
-  does-led y d of is = subst (λ (found : Option Operation). IfSome found (IsLed sound typed b)) is (step-led y of)
+  pub does-led : (y : Step) (d : Operation) → IsStepOf (b.method).work y → operation_of_step objects o arguments y ≡ Some d → IsLed sound typed b y d
+  does-led y d of is = subst (λ (found : Option Operation). IfSome found (IsLed sound typed b y)) is (step-led y of)

@@ -1,48 +1,19 @@
 -- Each rule keeps what a run of a checked program keeps, and spares every object that has a body.
-use Rattle.std.{proofs.Common.{◌≡◌, ◌≢◌, ◌⊎◌, inl, inr, ℕ, suc, ◌+◌, ◌-◌, ◌<◌, ◌||◌, eqb, cond, Bool, true, false, IsTrue, List, [], ◌∷◌, ◌++◌, map, not, take, length, Result, Ok, Err, Option, Some, None, slice_get, refl, sym, ap, ◌∙◌, subst, arith}, specs.List.{AllByRecursion, find}, proofs.lemmas.Bool.{cases_eq, eqb-true, cases_Bool}, proofs.lemmas.Option.{same_Some, none-some}}
-use Rattle.basic_types.specs.{declared.kind.Kind.{Kind}, declared.kind.Kind.TheVariants.{Auto, Direct, Queued}, declared.value.Value.{Value}}
-use Rattle.syntax_trees.specs.declared.connection.ConnectionType.{ConnectionType}
-use Rattle.meta_model.proofs.InLists.{covered_by}
-use Rattle.meta_model.specs.{declared.effects.MetaEffects.{MetaEffects}, declared.object.MetaMethod.{MetaMethod}, declared.object.Statement.{Statement}, declared.object.Work.{Work}, declared.object.Work.TheVariants.{Signal, Slot, Native}, declared.qobject.TheConstants.{DESTROYED}, Loaded.{Loaded}, Members.{IsMethod, Below, Covers}, Sound.{IsSound}}
+use Rattle.std.{proofs.Common.{◌≡◌, ◌≢◌, ◌⊎◌, inl, inr, ℕ, suc, ◌-◌, ◌<◌, ◌||◌, eqb, Bool, true, false, IsTrue, List, [], ◌∷◌, ◌++◌, map, not, take, length, Option, Some, None, refl, sym, ap, ◌∙◌, subst, arith}, specs.List.{AllByRecursion, find}, proofs.lemmas.Bool.{cases_eq, eqb-true, cases_Bool}, proofs.lemmas.Option.{same_Some}}
+use Rattle.basic_types.specs.{declared.value.Value.{Value}}
+use Rattle.meta_model.specs.{declared.object.MetaMethod.{MetaMethod}, declared.object.Work.{Work}, declared.object.Work.TheVariants.{Signal, Slot, Native}, declared.qobject.TheConstants.{DESTROYED}, Loaded.{Loaded}, Members.{Below}, Sound.{IsSound}}
 use Rattle.connections.specs.{declared.connection.Connection.{Connection}, Connected.{touches}}
 use Rattle.event_loops.specs.{declared.item.Item.{Item}, declared.item.Item.TheVariants.{Call, Deletion}, declared.item.Posted.{Posted}, Queues.{Queues, items_at, is_before, taken_before}}
-use Rattle.native_slots.specs.declared.action.Action.{Action}
 use Rattle.object_tree.specs.{declared.life.Life.{Life}, declared.object.Object.{Object}, Family.{children_of, without_life}, Objects.{Lives, class_of, life_of, change_life, scheduled}, Typed.{ReadAs}}
-use Rattle.binding_graph.{specs.declared.binding.Binding.{Binding}, specs.declared.place.Place.{Place}, specs.Bindings.{binding_at, without, without_all, Settled}, specs.Places.{In, same_place}, proofs.Replaced.{without-fewer}, proofs.Places.{decide_place, same_place-refl}}
+use Rattle.binding_graph.{specs.declared.binding.Binding.{Binding}, specs.declared.place.Place.{Place}, specs.Bindings.{binding_at, without_all, Settled}, specs.Places.{In, same_place}}
 use Rattle.prop_bindings.specs.{declared.plans.assignment.Assignment.{Assignment}, Changes.{DifferInValues, AreChanged, in_order, once, places_in}, Fits.{Agree}, Values.{values_in}}
-use Rattle.effect_scan.{specs.declared.node.Node.{Node}, specs.declared.node.Member.TheVariants.{Method, Property, Destruction}, specs.Nodes.{node, named}, specs.Effects.{Occurs, here as first, after}, specs.Destroying.{Closure, itself, child}, specs.Edges.{MayLead, by_wire, by_notify, by_destruction}, proofs.Relating.{is_class}}
+use Rattle.effect_scan.{specs.declared.node.Node.{Node}, specs.declared.node.Member.TheVariants.{Method, Property, Destruction}, specs.Nodes.{node, named}, specs.Destroying.{Closure, itself, child}, specs.Edges.{MayLead, by_wire, by_notify, by_destruction}, proofs.Relating.{is_class}}
 use Rattle.certificate_lang.specs.{declared.certificate.Line.{Line}, declared.certificate.Certificate.{Certificate}}
 use Rattle.rank_check.specs.Valid.{IsLineOf, Destroys, IsValid}
-use Rattle.machine_state.{specs.declared.endpoints.Endpoints.{Endpoints}, specs.Telling.{Assigning, writes_of}, specs.declared.turn.Turn.{Turn}, specs.Connections.{is_living, next_used, joins_these}, specs.State.{Step, Run, Act, State, Activation, Body, Emit, Update, Destroy}, specs.Turns.{running, reaches_at_once}, proofs.Due.{found-among, all-removed, all-used, used-due, used-among}}
-use Rattle.trace_entries.specs.{declared.refusal.Refusal.{Refusal}, declared.entry.Entry.{Entry}}
-use Rattle.machine_rules.{specs.Connecting.{kept_ends, names_of, named_signal, found_ends, may_connect}, specs.Destroying.{Dies, NextRule, ChildRule, DestroyRule, living_child, Schedules, deleting}, specs.Operations.{Operation, Write, Begin, Choose, Connect, Disconnect, Delete, Schedule, TakeAnswer, Nothing, operation_of_step}, specs.Good.{ArgumentsFit, TopFits, IsWell, Spares, has_body}, specs.Judgement.{holds as so, goes_on}, specs.Natives.{NativeAnswers}, specs.Rules.{Rule, RuleAt, BodyRule, Does, EmitRule, UpdateRule, NotifiesIf, TurnRule, Serves, Delivers, Arrives, BeginsIf, begun, with_used, linked, unlinked, Connects, Disconnects}, specs.Settling.{Settles, Writes}, specs.code.Sound.{AllWait, Waits}, specs.There.{HasField, IsDead, IsMember}, proofs.Doing.{step-of}, proofs.Differing.{differ-stay, differ-spared}, proofs.Dying.{died-stay, scheduled-stay, scheduled-seen, other-seen}, proofs.Fields.{member-method}, proofs.Inherited.{method-below}, proofs.Keeps.{class-of-lives}, proofs.Lists.{all-append, all-filtered, all-snoc}, proofs.Waiting.{first-waits}, proofs.Scheduling.{schedule-cases}}
-use Rattle.object_machine.proofs.{CheckedRuns.Invariant.{Falls, IsNoHigher, Level, NodeLevel, FallsTo, IsStepOf, runs, asks, acts, BodyStands, EmitStands, IsFollower, IsTorn, DestroyStands, Stacked, IsOwned, IsWired, IsSited, IsCovered, Holds}, CheckedRuns.Nodes.{named-node, end-node, body-named, late-named, named-again}, CheckedRuns.Ladder.{higher-none, no-higher-self, level-at, level-of, at-node, falls-along, falls-to, line-from, line-unique}, CheckedRuns.Worlds.{Leaves, classes-left, differ-leaves, scheduled-leaves, died-leaves, SparedIn, stacked-still}, CheckedRuns.Followers.{IsKnown, followers}, CheckedRuns.Leading.{does-led}}
-
--- the binding of a property is one of the list, and the property is its target
-pub bound-by : (P : Binding → Type 0) (bs : List Binding) → AllByRecursion P bs → (q : Place) (b : Binding) → binding_at bs q ≡ Some b → P b × (b.target ≡ q)
-bound-by P [] all q b some = absurd (none-some b some)
-bound-by P (x ∷ xs) all q b some = elim (decide_place x.target q) [
-  | inl e ↦
-      let here : same_place x.target q ≡ true = subst (λ (z : Place). same_place x.target z ≡ true) e (same_place-refl x.target) in
-      let same : x ≡ b = same_Some x b (sym (ap (λ (y : Bool). cond y (Some x) (binding_at xs q)) here) ∙ some) in
-      (subst P same all.0, ap (λ (z : Binding). z.target) (sym same) ∙ e)
-  | inr f ↦ bound-by P xs all.1 q b (sym (ap (λ (y : Bool). cond y (Some x) (binding_at xs q)) f) ∙ some)
-]
-
--- what is left of a body, from the statements that are part of it
-left-runs : (work : Work) (body rest : List Statement) → work ≡ Slot body → ((s : Statement) → Occurs s rest → Occurs s body) → AllByRecursion (IsStepOf work) (map Run rest)
-left-runs work body [] e within = tt
-left-runs work body (s ∷ rest) e within = (runs e (within s first), left-runs work body rest e (λ t i. within t (after i)))
-
-left-acts : (work : Work) (effects : MetaEffects) (actions : List Action) → work ≡ Native effects → AllByRecursion (IsStepOf work) (map (Act effects) actions)
-left-acts work effects [] e = tt
-left-acts work effects (it ∷ actions) e = (acts e, left-acts work effects actions e)
-
--- one signature is one method of a class
-one-signature : {p : Loaded} {c i j : ℕ} {a b : MetaMethod} → IsSound p → IsMethod p c i a → IsMethod p c j b → a.sig ≡ b.sig → i ≡ j
-one-signature {p} {c} {i} {j} {a} {b} sound x y e =
-    let same_class = same_Some _ _ (sym (x.is_class).is ∙ (y.is_class).is) in
-    (sound.classes c y.class y.is_class).distinct_methods i j a b (ap (λ k. slice_get k.methods i) (sym same_class) ∙ x.is) y.is (ap (λ s. s.name) e) (ap (λ s. length s.types) e)
+use Rattle.machine_state.{specs.Telling.{Assigning, writes_of}, specs.declared.turn.Turn.{Turn}, specs.Connections.{is_living, next_used}, specs.State.{Step, Run, Act, State, Activation, Body, Emit, Update, Destroy}, specs.Turns.{running, reaches_at_once}, proofs.Due.{found-among, all-removed, all-used, used-due, used-among}}
+use Rattle.trace_entries.specs.{declared.entry.Entry.{Entry}}
+use Rattle.machine_rules.{specs.Destroying.{Dies, NextRule, ChildRule, DestroyRule, living_child, Schedules, deleting}, specs.Operations.{Operation, Write, Begin, Choose, Connect, Disconnect, Delete, Schedule, TakeAnswer, Nothing, operation_of_step}, specs.Good.{ArgumentsFit, TopFits, IsWell, Spares, has_body}, specs.Natives.{NativeAnswers}, specs.Rules.{Rule, RuleAt, BodyRule, Does, EmitRule, UpdateRule, NotifiesIf, TurnRule, Serves, Delivers, Arrives, BeginsIf, begun, with_used}, specs.Settling.{Settles, Writes}, specs.code.Sound.{AllWait, Waits}, specs.There.{HasField, IsDead, IsMember}, proofs.Doing.{step-of}, proofs.Differing.{differ-stay, differ-spared}, proofs.Dying.{died-stay, scheduled-stay, scheduled-seen, other-seen}, proofs.Fields.{member-method}, proofs.Keeps.{class-of-lives}, proofs.Lists.{all-append, all-filtered}, proofs.Waiting.{first-waits}, proofs.Scheduling.{schedule-cases}}
+use Rattle.object_machine.proofs.{CheckedRuns.Invariant.{Falls, IsNoHigher, Level, NodeLevel, FallsTo, IsStepOf, asks, BodyStands, EmitStands, IsFollower, IsTorn, DestroyStands, Stacked, IsOwned, IsWired, IsSited, IsCovered, Holds}, CheckedRuns.Nodes.{named-node, end-node, body-named, late-named, named-again}, CheckedRuns.Ladder.{higher-none, no-higher-self, level-at, level-of, at-node, falls-along, falls-to, line-from, line-unique}, CheckedRuns.Worlds.{Leaves, classes-left, differ-leaves, scheduled-leaves, died-leaves, SparedIn, stacked-still}, CheckedRuns.Followers.{IsKnown, followers}, CheckedRuns.Leading.{Draws, leads-drawn, does-led}, CheckedRuns.Staying.{left-runs, left-acts, steps-append, body-with, still-sited, fewer-bound, known-targets, not-queued, spared-as, begun-objects, update-objects, emission-objects, bound-by, Stays, known-member, linked-stays, unlinked-stays}}
 
 module _ {p : Loaded} {certificate : Certificate} (valid : IsValid p certificate) (sound : IsSound p) (classes : ℕ → Option ℕ) where
   abbrev pub Covered : State → Type 0
@@ -50,9 +21,6 @@ module _ {p : Loaded} {certificate : Certificate} (valid : IsValid p certificate
 
   abbrev pub Held : State → Type 0
   Held s = Holds p certificate classes s
-
-  known-member : (s : State) {o m : ℕ} {x : Object} {method : MetaMethod} → Covered s → (is : IsMember p s.objects o m x method) → classes o ≡ Some (is.life).class
-  known-member s {o} covered is = (covered.known).lives o (is.life).class (class-of-lives s.objects o is.lives)
 
   -- ---- a method begins
 
@@ -79,7 +47,7 @@ module _ {p : Loaded} {certificate : Certificate} (valid : IsValid p certificate
       r.node ≡ node (is.life).class (Method (named m)) → FallsTo p levels r.line → Stacked p classes u.objects below levels → n < suc (length below) → (n < length t.stack → TopFits p t.objects t.stack) → t ≡ begun u below o x m method arguments work → Held t
   begun-held u t n below o x m method arguments Signal levels r covered is work_is at falls st higher fits e =
       let Family : State → Type 0 = λ v. Held v in
-      subst Family (sym e) (record { covered = covered; levels = level-of valid r ∷ levels; stacked = (at-node valid r (record { class = (is.life).class; is = known-member u covered is; at = at }), falls, st) })
+      subst Family (sym e) (record { covered = covered; levels = level-of valid r ∷ levels; stacked = (at-node valid r (record { class = (is.life).class; is = known-member sound classes u covered is; at = at }), falls, st) })
   begun-held u t n below o x m method arguments (Slot statements) levels r covered is work_is at falls st higher fits e =
       let Family : State → Type 0 = λ v. (n < length v.stack → TopFits p v.objects v.stack) → Held v in
       subst Family (sym e) (λ top. record { covered = covered; levels = level-of valid r ∷ levels; stacked = body-held u below levels r is at falls st (λ bad. absurd (cc (sym work_is ∙ bad))) (top higher) (left-runs method.work statements statements work_is (λ s i. i)) }) fits
@@ -108,19 +76,6 @@ module _ {p : Loaded} {certificate : Certificate} (valid : IsValid p certificate
 
   -- ---- values are settled
 
-  -- bindings that are left once properties are written
-  still-sited : (places : List Place) (bs : List Binding) → AllByRecursion (IsSited p classes) bs → AllByRecursion (IsSited p classes) (without_all places bs)
-  still-sited [] bs all = all
-  still-sited (at ∷ places) bs all = still-sited places (without at bs) (all-filtered (IsSited p classes) _ bs all)
-
-  fewer-bound : (places : List Place) (bs : List Binding) (q : Place) (b : Binding) → binding_at (without_all places bs) q ≡ Some b → binding_at bs q ≡ Some b
-  fewer-bound [] bs q b is = is
-  fewer-bound (at ∷ places) bs q b is = without-fewer at bs q b (fewer-bound places (without at bs) q b is)
-
-  known-targets : (bs : List Binding) → AllByRecursion (IsSited p classes) bs → AllByRecursion (IsKnown classes) (map (λ (b : Binding). b.target) bs)
-  known-targets [] all = tt
-  known-targets (b ∷ bs) all = (((all.0).target.class, (all.0).target.is), known-targets bs all.1)
-
   pub settles-held : {s t : State} (below : List Activation) (levels : List (Level certificate)) (level : Level certificate) (written : List Place) {Tells : List Entry → Type 0} (objects : List Object) (bindings : List Binding) (changed : List Place) →
       Covered s → Agree p s.objects s.bindings → Stacked p classes s.objects below levels → FallsTo p levels level.line → AllByRecursion (IsFollower p certificate classes level.line) written →
       DifferInValues s.objects objects → AllByRecursion (IsSited p classes) bindings → Settled (binding_at bindings) (values_in objects) →
@@ -130,7 +85,7 @@ module _ {p : Loaded} {certificate : Certificate} (valid : IsValid p certificate
       Settles p s below Tells objects bindings changed t → Held t
   settles-held {s} {t} below levels level written objects bindings changed covered agree st falls low differ sited settled same kept changes settles =
       let left : Leaves p classes s.objects objects = differ-leaves s.objects objects differ in
-      let targets = known-targets (without_all written s.bindings) (still-sited written s.bindings covered.sited) in
+      let targets = known-targets p classes (without_all written s.bindings) (still-sited p classes written s.bindings covered.sited) in
       let notifies = followers valid sound classes (binding_at s.bindings) (binding_at bindings) (λ q b e. bound-by (IsSited p classes) bindings sited q b e) s.objects objects differ written level.line low agree.settled settled same kept
       (in_order written s.bindings) changed (all-append (IsKnown classes) (once written) (map (λ (b : Binding). b.target) (without_all written s.bindings)) (known-once level.line written low) targets) changes in
       let Family : State → Type 0 = λ v. Held v in
@@ -149,7 +104,7 @@ module _ {p : Loaded} {certificate : Certificate} (valid : IsValid p certificate
       AllByRecursion (IsFollower p certificate classes level.line) (places_in (writes_of what)) → Writes p s below what t → Held t
   writes-held {s} below levels level what covered agree st falls low w =
       let places : List Place = places_in (writes_of what) in
-      settles-held below levels level places w.objects (without_all places s.bindings) w.changed covered agree st falls low w.written.objects (still-sited places s.bindings covered.sited) w.written.settled
+      settles-held below levels level places w.objects (without_all places s.bindings) w.changed covered agree st falls low w.written.objects (still-sited p classes places s.bindings covered.sited) w.written.settled
       (λ z b other e. fewer-bound places s.bindings z b e) (λ z other none. w.written.kept z none other) w.written.changes w.settles
 
   -- a property of a class, at the level of its node
@@ -245,11 +200,6 @@ module _ {p : Loaded} {certificate : Certificate} (valid : IsValid p certificate
 
   -- ---- emissions
 
-  not-queued : (kind : Kind) (home runner : ℕ) → reaches_at_once kind home runner ≡ true → kind ≢ Queued
-  not-queued Direct home runner e bad = absurd (cc bad)
-  not-queued Auto home runner e bad = absurd (cc bad)
-  not-queued Queued home runner e bad = absurd (cc e)
-
   emission-goes : (s t : State) (below : List Activation) (levels : List (Level certificate)) (r : NodeLevel p certificate) (o g : ℕ) (arguments : List Value) (used last : ℕ) → Covered s → IsWell p s t → length s.stack ≡ suc (length below) → EmitStands classes o g r.node → FallsTo p levels r.line → Stacked p classes s.objects below levels →
       (found : Option Connection) → next_used s.objects s.connected.connections o g used last ≡ found → EmitRule p s o g arguments last below t found → Held t
   emission-goes s t below levels r o g arguments used last covered well high emits falls st None is e =
@@ -280,7 +230,7 @@ module _ {p : Loaded} {certificate : Certificate} (valid : IsValid p certificate
       by_way true once x =
           let life = (u.is).life in
           let sender : wired.sender ≡ emits.class = same_Some _ _ (sym wired.is_sender ∙ ap classes due.0 ∙ emits.is) in
-          let receiver : wired.receiver ≡ life.class = same_Some _ _ (sym wired.is_receiver ∙ known-member s covered u.is) in
+          let receiver : wired.receiver ≡ life.class = same_Some _ _ (sym wired.is_receiver ∙ known-member sound classes s covered u.is) in
           let signal : named g ≡ named (wired.wire).signal = ap named (sym due.1 ∙ wired.signal) ∙ named-again (wired.wire).signal in
           let late : named c.method ≡ c.method = subst (λ (m : ℕ). named m ≡ m) (sym wired.method) (late-named (wired.wire).method ((sound.wires wired.wire wired.declared).called)) in
           let line_is = subst (λ (z : Node). IsLineOf p certificate z r.line) emits.at r.is in
@@ -296,64 +246,15 @@ module _ {p : Loaded} {certificate : Certificate} (valid : IsValid p certificate
 
   -- ---- connections
 
-  pub wired-by : (from to a b g m number : ℕ) (signal method : MetaMethod) (kind : Kind) (single : Bool) → classes a ≡ Some from → classes b ≡ Some to → IsMethod p from g signal → IsMethod p to m method → Covers p from signal.sig to method.sig kind →
-      IsWired p classes (record { number = number; sender = a; signal = named_signal g; receiver = b; method = m; kind = kind; single = single })
-  wired-by from to a b g m number signal method kind single is_from is_to has_signal has_method wired =
-      let covers = covered_by wired in
-      let by = covers.by in
-      let same_signal : g ≡ (covers.wire).signal = one-signature sound has_signal (method-below sound by.sender (by.from).is) (sym (by.from).signed) in
-      let same_method : m ≡ (covers.wire).method = one-signature sound has_method (method-below sound by.receiver (by.to).is) (sym (by.to).signed) in
-      record {
-        wire = covers.wire;
-        declared = covers.declared;
-        sender = from;
-        is_sender = is_from;
-        above_sender = by.sender;
-        signal = ap named same_signal;
-        receiver = to;
-        is_receiver = is_to;
-        above_receiver = by.receiver;
-        method = same_method;
-        kind = sym by.same_kind;
-      }
-
-  linked-held : (s t : State) (stack : List Activation) (levels : List (Level certificate)) (ends : Endpoints) (how : ConnectionType) → Covered s → Stacked p classes s.objects stack levels → Connects p s stack ends how t → Goes s stack t
-  linked-held s t stack levels ends how covered st x = by_answer x.answer x.judged x.gives
-    where
-      by_answer : (answer : Result (Unit {0}) Refusal) → may_connect p s.connected (found_ends x.spelled) (x.spelled).signal.sig (x.spelled).method.sig how answer → t ≡ linked s stack (kept_ends ends) how (names_of x.kept) answer → Goes s stack t
-      by_answer (Err k) judged e =
-          let Family : State → Type 0 = λ v. Goes s stack v in
-          subst Family (sym e) (record { covered = covered; levels = levels; stacked = st }, same-spared s.objects stack)
-      by_answer (Ok _) (goes_on _ (so covers) rest) e =
-          let there = x.spelled in
-          let wired = wired-by (there.sends).life.class (there.receives).life.class ends.sender ends.receiver ends.signal ends.method (s.connected.last + 1) there.signal there.method how.kind how.single (known-member s covered there.sends) (known-member s covered there.receives) (there.sends).is_method (there.receives).is_method covers in
-          let Family : State → Type 0 = λ v. Goes s stack v in
-          subst Family (sym e) (
-            record {
-              covered = record { known = covered.known; owned = covered.owned; wired = all-snoc (IsWired p classes) s.connected.connections _ covered.wired wired; sited = covered.sited };
-              levels = levels;
-              stacked = st;
-            },
-            same-spared s.objects stack,
-          )
-
-  unlinked-held : (s t : State) (stack : List Activation) (levels : List (Level certificate)) (ends : Endpoints) → Covered s → Stacked p classes s.objects stack levels → Disconnects p s stack ends t → Goes s stack t
-  unlinked-held s t stack levels ends covered st x = by_answer x.answer x.gives
-    where
-      by_answer : (answer : Result (Unit {0}) Refusal) → t ≡ unlinked s stack (kept_ends ends) (names_of x.kept) answer → Goes s stack t
-      by_answer (Err k) e =
-          let Family : State → Type 0 = λ v. Goes s stack v in
-          subst Family (sym e) (record { covered = covered; levels = levels; stacked = st }, same-spared s.objects stack)
-      by_answer (Ok _) e =
-          let Family : State → Type 0 = λ v. Goes s stack v in
-          subst Family (sym e) (
-            record {
-              covered = record { known = covered.known; owned = covered.owned; wired = all-removed (IsWired p classes) (joins_these (kept_ends ends)) s.connected covered.wired; sited = covered.sited };
-              levels = levels;
-              stacked = st;
-            },
-            same-spared s.objects stack,
-          )
+  stays-goes : {s t : State} {stack : List Activation} (levels : List (Level certificate)) → Stacked p classes s.objects stack levels → Stays p classes s stack t → Goes s stack t
+  stays-goes {s} {t} {stack} levels st stays = (
+    record {
+      covered = stays.covered;
+      levels = levels;
+      stacked = subst (λ (l : List Activation). Stacked p classes t.objects l levels) (sym stays.is_stack) (subst (λ (objects : List Object). Stacked p classes objects stack levels) (sym stays.same) st);
+    },
+    spared-as stack s.objects t.objects stays.same,
+  )
 
   -- ---- an object is scheduled
 
@@ -377,21 +278,6 @@ module _ {p : Loaded} {certificate : Certificate} (valid : IsValid p certificate
       ]
 
   -- ---- bodies
-
-  spared-as : (stack : List Activation) (old new : List Object) → new ≡ old → SparedIn stack old new
-  spared-as stack old new e o body gone = subst (λ (l : List Object). IsDead l o) e gone
-
-  begun-objects : (u t : State) (below : List Activation) (o : ℕ) (x : Object) (m : ℕ) (method : MetaMethod) (arguments : List Value) (work : Work) → t ≡ begun u below o x m method arguments work → t.objects ≡ u.objects
-  begun-objects u t below o x m method arguments Signal e = ap (λ (v : State). v.objects) e
-  begun-objects u t below o x m method arguments (Slot statements) e = ap (λ (v : State). v.objects) e
-  begun-objects u t below o x m method arguments (Native effects) e = ap (λ (v : State). v.objects) e
-
-  steps-append : (P : Step → Type 0) (front rest : List Step) → AllByRecursion P front → AllByRecursion P rest → AllByRecursion P (front ++ rest)
-  steps-append P [] rest a b = b
-  steps-append P (x ∷ front) rest a b = (a.0, steps-append P front rest a.1 b)
-
-  body-with : {objects : List Object} {o m : ℕ} {arguments : List Value} {left : List Step} {x : Node} (b : BodyStands p objects o m arguments left x) (rest : List Step) → AllByRecursion (IsStepOf (b.method).work) rest → BodyStands p objects o m arguments rest x
-  body-with b rest steps = record { class = b.class; lives = b.lives; at = b.at; method = b.method; is = b.is; bodied = b.bodied; typed = b.typed; steps = steps }
 
   pub deletes-held : (s t : State) (stack : List Activation) (levels : List (Level certificate)) (r : NodeLevel p certificate) (x class : ℕ) → Covered s → Stacked p classes s.objects stack levels → FallsTo p levels r.line → r.node ≡ node class Destruction → classes x ≡ Some class → Closure p class class → t ≡ deleting s stack x → Goes s stack t
   deletes-held s t stack levels r x class covered st falls at is closed e =
@@ -418,18 +304,18 @@ module _ {p : Loaded} {certificate : Certificate} (valid : IsValid p certificate
       record { rank = omega (arith, fall); set = λ d none. none }
 
   -- a property to which the body's node may lead is no higher
-  written-low : (objects : List Object) (known : (o class : ℕ) → class_of objects o ≡ Some class → classes o ≡ Some class) (r : NodeLevel p certificate) (writes : List Assignment) → AllByRecursion (λ (a : Assignment). (z : Object) (k : Life) → Lives objects a.place.object z k → MayLead p r.node (node k.class (Property a.place.property))) writes → AllByRecursion (HasField p objects) (places_in writes) → AllByRecursion (IsFollower p certificate classes (below-it r).line) (places_in writes)
-  written-low objects known r [] leads there = tt
-  written-low objects known r (a ∷ writes) leads there =
+  written-low : (objects : List Object) (known : (o class : ℕ) → class_of objects o ≡ Some class → classes o ≡ Some class) (r : NodeLevel p certificate) {o m : ℕ} {arguments : List Value} {left : List Step} (b : BodyStands p objects o m arguments left r.node) (step : Step) (writes : List Assignment) → AllByRecursion (λ (a : Assignment). (z : Object) (k : Life) → Lives objects a.place.object z k → Draws p b.class b.method step (node k.class (Property a.place.property))) writes → AllByRecursion (HasField p objects) (places_in writes) → AllByRecursion (IsFollower p certificate classes (below-it r).line) (places_in writes)
+  written-low objects known r b step [] leads there = tt
+  written-low objects known r b step (a ∷ writes) leads there =
       let field = there.0 in
       let life = (field.is).life in
-      let lead = leads.0 field.object life (field.is).lives in (
+      let lead = leads-drawn b (leads.0 field.object life (field.is).lives) in (
         record {
           class = life.class;
           is = known a.place.object life.class (class-of-lives objects a.place.object (field.is).lives);
           no_higher = λ line at. let fall = falls-along valid lead r.is at in let rank = fall.rank in record { rank = omega (arith, rank); set = fall.set };
         },
-        written-low objects known r writes leads.1 there.1,
+        written-low objects known r b step writes leads.1 there.1,
       )
 
   does-goes : (natives : NativeAnswers) (s t : State) (below : List Activation) (levels : List (Level certificate)) (r : NodeLevel p certificate) (o m : ℕ) (arguments : List Value) (y : Step) (rest : List Step) → Covered s → Agree p s.objects s.bindings → IsWell p s t → length s.stack ≡ suc (length below) →
@@ -450,29 +336,29 @@ module _ {p : Loaded} {certificate : Certificate} (valid : IsValid p certificate
 
       by_operation : (d : Operation) → operation_of_step s.objects o arguments y ≡ Some d → Does p natives s o m arguments rest below d t → Goes s stack t
       by_operation (Write what) is does =
-          let led = does-led valid sound agree.typed b y (Write what) (b.steps).0 is in
+          let led = does-led (valid.typed) sound agree.typed b y (Write what) (b.steps).0 is in
           let spared : SparedIn stack s.objects t.objects = λ k body gone. differ-spared s.objects does.objects does.written.objects k (subst (λ (v : State). IsDead v.objects k) does.settles.gives gone) in
-          (writes-held stack higher (below-it r) what covered agree stands (falls-below r led.0) (written-low s.objects (covered.known).lives r (writes_of what) led.1 does.there) does, spared)
+          (writes-held stack higher (below-it r) what covered agree stands (falls-below r (led.0.0, leads-drawn b led.0.1)) (written-low s.objects (covered.known).lives r b y (writes_of what) led.1 does.there) does, spared)
       by_operation (Begin x n given) is does =
           let life = (does.is).life in
-          let led = does-led valid sound agree.typed b y (Begin x n given) (b.steps).0 is in
-          let next = falls-to valid sound (node life.class (Method n)) r.is (led.0 does.object life (does.is).lives) in (
+          let led = does-led (valid.typed) sound agree.typed b y (Begin x n given) (b.steps).0 is in
+          let next = falls-to valid sound (node life.class (Method n)) r.is (leads-drawn b (led.0 does.object life (does.is).lives)) in (
             begun-held s t (length s.stack) stack x does.object n does.method given (does.method).work higher next.0 covered does.is refl (next.1 ∙ ap (λ (k : ℕ). node life.class (Method k)) (sym led.1)) next.2 stands (omega (arith, high)) well.arguments does.gives,
             spared-as stack s.objects t.objects (begun-objects s t stack x does.object n does.method given (does.method).work does.gives),
           )
       by_operation (Choose block) is does =
-          let led = does-led valid sound agree.typed b y (Choose block) (b.steps).0 is in
+          let led = does-led (valid.typed) sound agree.typed b y (Choose block) (b.steps).0 is in
           told-goes does (record { covered = covered; levels = higher; stacked = (at-node valid r (body-with b (map Run block ++ rest) (steps-append (IsStepOf (b.method).work) (map Run block) rest (left-runs (b.method).work led.0 block led.1 led.2) (b.steps).1)), falls, st) }, same-spared s.objects stack)
-      by_operation (Connect ends how) is does = linked-held s t stack higher ends how covered stands does
-      by_operation (Disconnect ends) is does = unlinked-held s t stack higher ends covered stands does
+      by_operation (Connect ends how) is does = stays-goes {s = s} {t = t} higher stands (linked-stays sound classes s t stack ends how covered does)
+      by_operation (Disconnect ends) is does = stays-goes {s = s} {t = t} higher stands (unlinked-stays sound classes s t stack ends covered does)
       by_operation (Delete x) is does =
-          let led = does-led valid sound agree.typed b y (Delete x) (b.steps).0 is in
+          let led = does-led (valid.typed) sound agree.typed b y (Delete x) (b.steps).0 is in
           let z = led.0 in
-          let next = falls-to valid sound (node (z.1).class Destruction) r.is (led.1 z.0 z.1 z.2) in
+          let next = falls-to valid sound (node (z.1).class Destruction) r.is (leads-drawn b (led.1 z.0 z.1 z.2)) in
           deletes-held s t stack higher next.0 x (z.1).class covered stands next.2 next.1 ((covered.known).lives x (z.1).class (class-of-lives s.objects x z.2)) (itself (agree.typed x z.0 z.1 z.2).is_class) does
       by_operation (Schedule x) is does = schedules-held s t stack higher x (life_of s.objects x) covered stands does
       by_operation (TakeAnswer effects) is does =
-          let native = does-led valid sound agree.typed b y (TakeAnswer effects) (b.steps).0 is in
+          let native = does-led (valid.typed) sound agree.typed b y (TakeAnswer effects) (b.steps).0 is in
           told-goes does.gives (record { covered = covered; levels = higher; stacked = (at-node valid r (body-with b (map (Act effects) does.actions ++ rest) (steps-append (IsStepOf (b.method).work) (map (Act effects) does.actions) rest (left-acts (b.method).work effects does.actions native) (b.steps).1)), falls, st) }, same-spared s.objects stack)
       by_operation Nothing is does = told-goes does (record { covered = covered; levels = higher; stacked = stands }, same-spared s.objects stack)
 
@@ -521,22 +407,6 @@ module _ {p : Loaded} {certificate : Certificate} (valid : IsValid p certificate
 
   -- ---- all rules
 
-  update-objects : (s t : State) (below : List Activation) (places : List Place) → UpdateRule p s below t places → t.objects ≡ s.objects
-  update-objects s t below [] e = ap (λ (v : State). v.objects) e
-  update-objects s t below (place ∷ places) rule = by_life (life_of s.objects place.object) rule
-    where
-      by_life : (life : Option Life) → NotifiesIf p s (Update places ∷ below) place t life → t.objects ≡ s.objects
-      by_life None e = ap (λ (v : State). v.objects) e
-      by_life (Some l) n = ap (λ (v : State). v.objects) n.gives
-
-  emission-objects : (s t : State) (o g : ℕ) (arguments : List Value) (last : ℕ) (below : List Activation) (found : Option Connection) → EmitRule p s o g arguments last below t found → t.objects ≡ s.objects
-  emission-objects s t o g arguments last below None e = ap (λ (v : State). v.objects) e
-  emission-objects s t o g arguments last below (Some c) u = by_way (reaches_at_once c.kind u.home (running s.turn)) u.arrives
-    where
-      by_way : (b : Bool) → Arrives (with_used s c) (Emit o g arguments c.number last ∷ below) u.home c.receiver u.receiver c.method u.method (take (length (u.method).types) arguments) t b → t.objects ≡ s.objects
-      by_way true e = begun-objects (with_used s c) t (Emit o g arguments c.number last ∷ below) c.receiver u.receiver c.method u.method (take (length (u.method).types) arguments) (u.method).work e
-      by_way false x = ap (λ (v : State). v.objects) x.gives
-
   rule-at : (natives : NativeAnswers) (s t : State) (stack : List Activation) (levels : List (Level certificate)) → s.stack ≡ stack → Covered s → Agree p s.objects s.bindings → AllWait p s.objects s.queues.loops → IsWell p s t → Stacked p classes s.objects stack levels → RuleAt p natives s t stack → Held t × SparedIn stack s.objects t.objects
   rule-at natives s t [] [] is covered agree waiting well st rule =
       (turn-held s t covered (subst (λ (l : List Activation). Stacked p {certificate = certificate} classes s.objects l []) (sym is) st) (ap (λ (l : List Activation). length l) is) well waiting s.turn rule, λ o body gone. absurd (cc body))
@@ -546,10 +416,10 @@ module _ {p : Loaded} {certificate : Certificate} (valid : IsValid p certificate
       body-goes natives s t below levels (record { node = (st.0).node; line = r.line; is = (st.0).is }) o m arguments left covered agree well (ap (λ (l : List Activation). length l) is) (st.0).stands st.1 st.2 rule
   rule-at natives s t (Emit o g arguments used last ∷ below) (r ∷ levels) is covered agree waiting well st rule = (
     emission-goes s t below levels (record { node = (st.0).node; line = r.line; is = (st.0).is }) o g arguments used last covered well (ap (λ (l : List Activation). length l) is) (st.0).stands st.1 st.2 (next_used s.objects s.connected.connections o g used last) refl rule,
-    spared-as (Emit o g arguments used last ∷ below) s.objects t.objects (emission-objects s t o g arguments last below (next_used s.objects s.connected.connections o g used last) rule),
+    spared-as (Emit o g arguments used last ∷ below) s.objects t.objects (emission-objects p s t o g arguments last below (next_used s.objects s.connected.connections o g used last) rule),
   )
   rule-at natives s t (Update places ∷ below) (r ∷ levels) is covered agree waiting well st rule =
-      (update-goes s t below levels r places covered well (ap (λ (l : List Activation). length l) is) st.0 st.1 st.2 rule, spared-as (Update places ∷ below) s.objects t.objects (update-objects s t below places rule))
+      (update-goes s t below levels r places covered well (ap (λ (l : List Activation). length l) is) st.0 st.1 st.2 rule, spared-as (Update places ∷ below) s.objects t.objects (update-objects p s t below places rule))
   rule-at natives s t (Destroy next torn ∷ below) (r ∷ levels) is covered agree waiting well st rule =
       let g = destroy-goes s t below levels (record { node = (st.0).node; line = r.line; is = (st.0).is }) next torn covered (st.0).stands st.1 st.2 rule in (g.0, λ o body gone. g.1 o body gone)
 

@@ -86,6 +86,10 @@ reads-lead {p} {classes} {b} {m} sited reads =
       }),
     )
 
+-- no chain of bindings that sites cover leads back to where it began
+abbrev pub ChainsEnd : Loaded → Type 0
+ChainsEnd p = (classes : ℕ → Option ℕ) (G : Place → Option Binding) → ((q : Place) (b : Binding) → G q ≡ Some b → IsSited p classes b × (b.target ≡ q)) → ¬ Loop G
+
 -- ---- what changes
 
 module _ {p : Loaded} {certificate : Certificate} (valid : IsValid p certificate) (sound : IsSound p) (classes : ℕ → Option ℕ)
@@ -166,3 +170,6 @@ module _ {p : Loaded} {certificate : Certificate} (valid : IsValid p certificate
       let same_rank = ap (λ (l : Line). l.rank) one in
       let fall = up.2 in
       omega (arith, fall, same_rank)
+
+pub chains-end : {p : Loaded} {certificate : Certificate} → IsValid p certificate → IsSound p → ChainsEnd p
+chains-end valid sound classes G sited = no-loop valid sound classes G sited

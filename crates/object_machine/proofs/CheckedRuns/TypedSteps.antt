@@ -12,12 +12,11 @@ use Rattle.object_tree.{specs.declared.life.Life.{Life}, specs.declared.object.O
 use Rattle.binding_graph.specs.{declared.binding.Binding.{Binding}, declared.place.Place.{Place}, Bindings.{binding_at, without, replaced, Loop as Closed}}
 use Rattle.prop_bindings.{specs.Fits.{Agree}, proofs.Leaving.{agree-living, left_agree}, proofs.Agreeing.{adopted_agree, blocked_agree, live-created}, specs.Calls.{AllFit}}
 use Rattle.effect_scan.specs.{declared.node.Member.TheVariants.{Property}, Nodes.{node}}
-use Rattle.certificate_lang.specs.declared.certificate.Certificate.{Certificate}
-use Rattle.rank_check.specs.Valid.{IsValid}
+use Rattle.type_check.specs.Typed.{IsTypedProgram}
 use Rattle.machine_state.specs.{declared.endpoints.Endpoints.{Endpoints}, declared.turn.Turn.{Turn}, Accepting.{accepted}, Connections.{is_living, next_used}, State.{Step, State, IsIdle, Activation, Body, Emit, Update, Destroy}, Turns.{running, reaches_at_once}, Telling.{Assigning, writes_of}}
 use Rattle.trace_entries.specs.{declared.refusal.Refusal.{Refusal}, declared.fault.Answer.{Answer}}
 use Rattle.machine_rules.{specs.Connecting.{kept_ends, names_of}, specs.Destroying.{Dies, NextRule, ChildRule, DestroyRule, living_child, Schedules}, specs.Operations.{Operation, Write, Begin, Choose, Connect, Disconnect, Delete, Schedule, TakeAnswer, Nothing, operation_of_step}, specs.Judgement.{found as finds, holds as so, becomes, goes_on}, specs.Natives.{NativeAnswers}, specs.Rules.{Rule, RuleAt, BodyRule, Does, EmitRule, UpdateRule, NotifiesIf, TurnRule, Serves, Delivers, Arrives, BeginsIf, begun, with_used, linked, unlinked}, specs.Next.{WritesNext}, proofs.Differing.{scheduled-agree}, proofs.Doing.{does-next, step-of}, proofs.Lists.{all-filtered, all-snoc}, proofs.Scheduling.{schedule-cases}}
-use Rattle.object_machine.{specs.declared.invoking.Invocation.{Invocation}, specs.declared.invoking.Invocation.TheVariants.{Emit as EmitIt, Call as CallIt}, specs.Takes.{Takes, accepts, refuses}, specs.Events.{judged, block, invoke}, proofs.Settling.{bound-within}, proofs.CheckedRuns.Invariant.{IsSited, IsCovered}, proofs.CheckedRuns.Binding.{may-fit}, proofs.CheckedRuns.Events.{HoldsSome, binding-sited}, proofs.Judged.{given-is}, proofs.Moving.{stores-agree}, proofs.Judging.Naming.{living-is, living-object}, proofs.CheckedRuns.Nodes.{property-node}, proofs.CheckedRuns.Rules.{bound-by}, proofs.CheckedRuns.Settled.{agree-at, writes-agree, installs-agree}, proofs.CheckedRuns.Sites.{no-loop}}
+use Rattle.object_machine.{specs.declared.invoking.Invocation.{Invocation}, specs.declared.invoking.Invocation.TheVariants.{Emit as EmitIt, Call as CallIt}, specs.Takes.{Takes, accepts, refuses}, specs.Events.{judged, block, invoke}, proofs.Settling.{bound-within}, proofs.CheckedRuns.Invariant.{IsSited, IsCovered}, proofs.CheckedRuns.Binding.{may-fit}, proofs.CheckedRuns.Staying.{bound-by, Covered}, proofs.CheckedRuns.Events.{binding-sited}, proofs.Judged.{given-is}, proofs.Moving.{stores-agree}, proofs.Judging.Naming.{living-is, living-object}, proofs.CheckedRuns.Nodes.{property-node}, proofs.CheckedRuns.Settled.{agree-at, writes-agree, installs-agree}, proofs.CheckedRuns.Sites.{ChainsEnd}}
 
 -- every value that the next step writes fits its property
 abbrev pub WritesFit : Loaded → State → Type 0
@@ -141,16 +140,16 @@ all-at P [] each = tt
 all-at P (x ∷ xs) each = (each 0 x refl, all-at P xs (λ k. each (suc k)))
 
 -- in a typed program every object begins well
-begins-well : {p : Loaded} {certificate : Certificate} → IsValid p certificate → IsSound p → (objects : List Object) (c : ℕ) (class : MetaObject) → IsClass p c class → BeginsWell p objects c class
-begins-well {p} valid sound objects c class is = All-from_recursion (BeginsAs p objects c) class.properties (all-at (BeginsAs p objects c) class.properties (λ q property there.
+begins-well : {p : Loaded} → IsTypedProgram p → IsSound p → (objects : List Object) (c : ℕ) (class : MetaObject) → IsClass p c class → BeginsWell p objects c class
+begins-well {p} program sound objects c class is = All-from_recursion (BeginsAs p objects c) class.properties (all-at (BeginsAs p objects c) class.properties (λ q property there.
     let here = property-node sound c q property (record { class = class; is_class = is; is = there }) in
-    let has = (valid.typed).nodes here.0 (node c (Property q)) here.1 property (class_with objects c) (record { class = class; is_class = is; is = there }) in
+    let has = program.nodes here.0 (node c (Property q)) here.1 property (class_with objects c) (record { class = class; is_class = is; is = there }) in
     let literal = seen-literal objects property.initial (((sound.classes c class is).properties q property there).initial) in
     subst (λ (v : Value). Has p (class_with objects c) v property.kind) (sym literal) has))
 
 -- ---- events
 
-module _ {p : Loaded} {certificate : Certificate} (valid : IsValid p certificate) (sound : IsSound p) (s : State) (agree : Agree p s.objects s.bindings) where
+module _ {p : Loaded} (program : IsTypedProgram p) (sound : IsSound p) (ends : ChainsEnd p) (s : State) (agree : Agree p s.objects s.bindings) where
   invoked-agrees : (t : State) (a : Invocation) (name called : List ℕ) (inputs : List Input) → invoke p s a name called inputs (Ok t) → Agree p t.objects t.bindings
   invoked-agrees t a name called inputs (goes_on o lives (goes_on m asked (goes_on vs given (goes_on _ fit (becomes b))))) =
       begun-agrees s t agree (accepted s) s.stack o.number b.object m.number b.method vs (b.method).work agree b.gives
@@ -164,40 +163,40 @@ module _ {p : Loaded} {certificate : Certificate} (valid : IsValid p certificate
   created-agrees name c home class is =
       let z : Object = fresh name c home (initial_values class) in
       agree-living p s.objects (s.objects ++ z ∷ []) s.bindings
-      (typed-created p s.objects name c home class is (begins-well valid sound s.objects c class is) agree.typed)
+      (typed-created p s.objects name c home class is (begins-well program sound s.objects c class is) agree.typed)
       (live-created s.objects z) agree
 
   -- a bind that may be closes no chain
   bind-closes-none : (classes : ℕ → Option ℕ) → IsCovered p classes s.objects s.connected.connections s.bindings → (b : Binding) → IsSited p classes b → ¬ Closed (binding_at (replaced s.bindings b))
   bind-closes-none classes covered b sited =
       let all = all-snoc (IsSited p classes) (without b.target s.bindings) b (all-filtered (IsSited p classes) _ s.bindings covered.sited) sited in
-      no-loop valid sound classes (binding_at (replaced s.bindings b)) (λ q z e. bound-by (IsSited p classes) (replaced s.bindings b) all q z e)
+      ends classes (binding_at (replaced s.bindings b)) (λ q z e. bound-by (IsSited p classes) (replaced s.bindings b) all q z e)
 
-  event-agrees : (t : State) (e : Event) → HoldsSome valid sound s → IsIdle s → judged p s e (Ok t) → Agree p t.objects t.bindings
-  event-agrees t (Loop name) held idle (goes_on _ free given) = agree-at _ (given-is given) agree
-  event-agrees t (TurnEvent name) held idle (goes_on home is given) = agree-at _ (given-is given) agree
-  event-agrees t (New name class loop) held idle (goes_on _ free (goes_on c (finds is) (goes_on home lives (goes_on _ room given)))) =
+  event-agrees : (t : State) (e : Event) (classes : ℕ → Option ℕ) → Covered p classes s → IsIdle s → judged p s e (Ok t) → Agree p t.objects t.bindings
+  event-agrees t (Loop name) classes covered idle (goes_on _ free given) = agree-at _ (given-is given) agree
+  event-agrees t (TurnEvent name) classes covered idle (goes_on home is given) = agree-at _ (given-is given) agree
+  event-agrees t (New name class loop) classes covered idle (goes_on _ free (goes_on c (finds is) (goes_on home lives (goes_on _ room given)))) =
       agree-at _ (given-is given) (created-agrees name c.number home c.it is.0)
-  event-agrees t (Adopt parent child) held idle (goes_on a is_parent (goes_on c is_child (goes_on _ owns (goes_on _ over (goes_on _ home (goes_on objects (becomes x) given)))))) =
+  event-agrees t (Adopt parent child) classes covered idle (goes_on a is_parent (goes_on c is_child (goes_on _ owns (goes_on _ over (goes_on _ home (goes_on objects (becomes x) given)))))) =
       agree-at _ (given-is given) (adopted_agree p s.bindings s.objects objects a.number c.number c.it agree x)
-  event-agrees t (Move name loop) held idle (goes_on o lives (goes_on home is (goes_on _ root (goes_on _ alone (goes_on store (becomes x) given))))) =
+  event-agrees t (Move name loop) classes covered idle (goes_on o lives (goes_on home is (goes_on _ root (goes_on _ alone (goes_on store (becomes x) given))))) =
       agree-at _ (given-is given) (stores-agree x agree)
-  event-agrees t (ConnectEvent e how) held idle (goes_on f both (goes_on _ may given)) = agree-at _ (given-is given) agree
-  event-agrees t (DisconnectEvent e) held idle (goes_on f both (goes_on _ may given)) = agree-at _ (given-is given) agree
-  event-agrees t (Set name property i) held idle (goes_on o lives (goes_on q (finds asked) (goes_on v _ (goes_on _ (so fits) (becomes w))))) =
+  event-agrees t (ConnectEvent e how) classes covered idle (goes_on f both (goes_on _ may given)) = agree-at _ (given-is given) agree
+  event-agrees t (DisconnectEvent e) classes covered idle (goes_on f both (goes_on _ may given)) = agree-at _ (given-is given) agree
+  event-agrees t (Set name property i) classes covered idle (goes_on o lives (goes_on q (finds asked) (goes_on v _ (goes_on _ (so fits) (becomes w))))) =
       let it = living-object o (living-is lives) in
       writes-agree {s = accepted s} agree w (record { object = it.0; life = o.it; lives = it.1; property = q.it; is_property = asked.0; reads = fits }, tt)
-  event-agrees t (Bind site target sources) held idle (goes_on b may (becomes x)) =
-      let sited = binding-sited valid sound s idle held.0 (held.1).covered agree site target sources b may in
-      installs-agree {s = accepted s} agree (may-fit valid sound s agree site target sources b may) (bind-closes-none held.0 (held.1).covered b sited) (bound-within s site target sources may) x
-  event-agrees t (EmitEvent name signal inputs) held idle x = invoked-agrees t EmitIt name signal inputs x
-  event-agrees t (CallEvent name slot inputs) held idle x = invoked-agrees t CallIt name slot inputs x
-  event-agrees t (Block name) held idle x = blocked-agrees name true x
-  event-agrees t (Unblock name) held idle x = blocked-agrees name false x
-  event-agrees t (DeleteEvent name) held idle (goes_on o lives given) = agree-at _ (given-is given) agree
-  event-agrees t (LaterEvent name) held idle (goes_on o lives (becomes x)) = schedules-agrees (accepted s) t agree s.stack o.number (Some o.it) x
+  event-agrees t (Bind site target sources) classes covered idle (goes_on b may (becomes x)) =
+      let sited = binding-sited sound s idle classes covered agree site target sources b may in
+      installs-agree {s = accepted s} agree (may-fit program sound s agree site target sources b may) (bind-closes-none classes covered b sited) (bound-within s site target sources may) x
+  event-agrees t (EmitEvent name signal inputs) classes covered idle x = invoked-agrees t EmitIt name signal inputs x
+  event-agrees t (CallEvent name slot inputs) classes covered idle x = invoked-agrees t CallIt name slot inputs x
+  event-agrees t (Block name) classes covered idle x = blocked-agrees name true x
+  event-agrees t (Unblock name) classes covered idle x = blocked-agrees name false x
+  event-agrees t (DeleteEvent name) classes covered idle (goes_on o lives given) = agree-at _ (given-is given) agree
+  event-agrees t (LaterEvent name) classes covered idle (goes_on o lives (becomes x)) = schedules-agrees (accepted s) t agree s.stack o.number (Some o.it) x
 
 -- whatever event is taken, all is in agreement
-pub takes-agrees : {p : Loaded} {certificate : Certificate} (valid : IsValid p certificate) (sound : IsSound p) {s t : State} {e : Event} {a : Answer} → HoldsSome valid sound s → Agree p s.objects s.bindings → Takes p e a s t → Agree p t.objects t.bindings
-takes-agrees valid sound {s = s} {t = t} {e = e} held agree (accepts idle x) = event-agrees valid sound s agree t e held idle x
-takes-agrees valid sound held agree (refuses k idle x) = agree
+pub takes-agrees : {p : Loaded} (program : IsTypedProgram p) (sound : IsSound p) (ends : ChainsEnd p) {s t : State} {e : Event} {a : Answer} (classes : ℕ → Option ℕ) → Covered p classes s → Agree p s.objects s.bindings → Takes p e a s t → Agree p t.objects t.bindings
+takes-agrees program sound ends {s = s} {t = t} {e = e} classes covered agree (accepts idle x) = event-agrees program sound ends s agree t e classes covered idle x
+takes-agrees program sound ends classes covered agree (refuses k idle x) = agree
