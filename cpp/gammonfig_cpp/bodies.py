@@ -5,7 +5,6 @@ from .classes import OWNING
 from .comparing import Comparing
 from .conditional import Conditional
 from .context import Context
-from .holders import FUNCTION_OBJECTS
 from .libclang import FUNCTIONS, NAMES, RECORDS, VARIABLES, Cursor, K, T, bare, cindex, expressions, is_of_closure, is_pattern, quick, strip
 from .model import Function, Value
 
@@ -75,6 +74,8 @@ class Bodies:
                 context.calls.initial_member(initial[-1])
                 if strip(initial[-1]).kind == K.LAMBDA_EXPR:
                     context.lambdas[key] = self.lambda_key(strip(initial[-1]))
+                elif context.calls.keeping.holds_function(cursor.type):
+                    context.calls.keeping.keep_in(key, initial[-1])
         cls = context.classes.of(cursor.type)
         if not cls:
             return
@@ -150,9 +151,9 @@ class Bodies:
         context, member = self.context, name.referenced
         with context.hinted(name.spelling):
             cls = context.classes.of(member.type) if member is not None else ''
-            if member is not None and context.classes.holder(member.type) in FUNCTION_OBJECTS:
-                context.calls.holders.keep_in(str(member.get_usr()), given)
-            if member is not None and member.kind == K.FIELD_DECL and cls and context.classes.is_value(member.type):
+            if member is not None and context.calls.keeping.holds_function(member.type):
+                context.calls.keeping.keep_first(str(member.get_usr()), given)
+            elif member is not None and member.kind == K.FIELD_DECL and cls and context.classes.is_value(member.type):
                 context.calls.initial(given, context.site(str(member.get_usr()), member, cls, member.spelling))
             elif member is not None:
                 context.flow(str(member.get_usr()), context.values.of(given))
@@ -167,7 +168,7 @@ class Bodies:
         place = context.declared(cursor)
         shown = f'lambda in {outer.shown}' if outer else 'lambda'
         formals = [k for k in cursor.get_children() if k.kind == K.PARM_DECL]
-        function = Function(key, f'lambda_{place.line}', shown, outer.cls if outer else '', 'lambda', place, cursor.extent.end.line,
+        function = Function(key, f'lambda_{place.line}', shown, outer.cls if outer else context.outer, 'lambda', place, cursor.extent.end.line,
                             context.classes.parameters(formals))
         context.facts.functions[key] = function
         if not any('type-parameter' in p.type for p in function.parameters):
@@ -207,6 +208,9 @@ class Bodies:
             if named.kind == 'method':
                 context.pointers[str(key)] = named
                 return
+        if first is not None and context.calls.keeping.holds_function(cursor.type):
+            context.calls.keeping.keep_first(str(key), first)
+            return
         with context.hinted(cursor.spelling):
             if cls and context.classes.is_value(cursor.type):
                 self._local_object(cursor, str(key), cls, first)
@@ -310,6 +314,8 @@ class Bodies:
             self.ranges[key or ''] = ranges[0]
             if cls:
                 self.context.flow(key, self.context.values.of(ranges[0]), cls)
+            if key and self.context.calls.keeping.holds_function(variable.type):
+                self.context.calls.keeping.keep_in(key, ranges[0])
         self.conditional.loop(cursor)
 
     def _operator(self, cursor: Cursor) -> None:

@@ -6,6 +6,7 @@ import re
 from .classes import BINDABLE, CONTAINERS, SMART
 from .context import Context
 from .holders import Holders
+from .keeping import OF_VALUES, Keeping
 from .libclang import FUNCTIONS, NAMES, RECORDS, VARIABLES, Cursor, K, T, bare, expressions, is_written, strip
 from .model import NONE, Condition, Construct, Forward, Named, Statement, Value
 from .possessing import Possessing
@@ -24,7 +25,7 @@ DEFERRED = {'singleShot', 'run', 'create', 'mapped', 'map', 'filtered', 'filter'
 class Calls:
     def __init__(self, context: Context) -> None:
         self.context = context
-        self.holders, self.possessing = Holders(context), Possessing(context)
+        self.holders, self.keeping, self.possessing = Holders(context), Keeping(context), Possessing(context)
         self.special = Special(context)
 
     # The parts of a call
@@ -107,11 +108,17 @@ class Calls:
             key = self.context.variable_key(called)
             if key in self.context.lambdas:
                 self.inline(call, self.context.lambdas[str(key)])
-            elif key is not None:
-                statement = self.context.add('call', call, self.context.this)
-                statement.named, statement.inline = Named('parameter', key), True
-                self.context.note('function pointer', call)
+            else:
+                self._held(call, key, 'function pointer')
         self.rest(call)
+
+    def _held(self, call: Cursor, key: str | None, kind: str) -> None:
+        """A call of the function that a variable holds: which that is, is known when all units are."""
+        if key is None:
+            self.context.note(kind, call)
+            return
+        statement = self.context.add('call', call, self.context.this)
+        statement.named, statement.inline, statement.name = Named('parameter', key), True, kind
 
     def _temporary(self, call: Cursor) -> None:
         context = self.context
@@ -185,17 +192,11 @@ class Calls:
 
     def _call_operator(self, call: Cursor, on: Cursor | None, inside: bool, parent: str) -> bool:
         """A call of a function object; whether that is all of it."""
-        named = strip(on) if on is not None else None
-        key = None
-        if named is not None and named.kind in NAMES and named.referenced is not None:
-            key = self.context.variable_key(named.referenced)
+        key = self.keeping.variable(on) if on is not None else None
         if key in self.context.lambdas:
             self.inline(call, self.context.lambdas[str(key)])
-        elif not inside and not re.match(r'Q(Non)?(Const)?Overload', parent):
-            if key is not None:
-                statement = self.context.add('call', call, self.context.this)
-                statement.named, statement.inline = Named('parameter', key), True
-            self.context.note('function object', call)
+        elif not inside and parent not in OF_VALUES and not re.match(r'Q(Non)?(Const)?Overload', parent):
+            self._held(call, key, 'function object')
         return not inside
 
     def objects(self, call: Cursor, on: Cursor | None) -> Value:
@@ -227,7 +228,7 @@ class Calls:
         if called.semantic_parent.kind in RECORDS and context.classes.is_object(statement.cls):
             self.special.owning(call, called.semantic_parent.spelling, called.spelling, value, given)
         if called.spelling.startswith('operator'):
-            self.holders.keep(on, given)
+            self.keeping.keep(on, given)
         elif not self.context.connects.by_library(call, called.semantic_parent.spelling, called.spelling, value, given):
             self.functors(call, called.spelling, given)
         self.rest(call, callables=False)
@@ -243,6 +244,8 @@ class Calls:
             slot, one = f'P:{key}:{at}', named[at]
             if one is not None:
                 context.facts.callables.append((slot, one))
+            elif at < len(formals) and is_written(argument) and self.keeping.holds_function(formals[at].type):
+                self.keeping.keep_in(slot, argument)
             cls = context.classes.of(argument.type)
             if not cls:
                 continue

@@ -6,7 +6,7 @@ from dataclasses import replace
 from typing import Callable
 
 from .calling import Calling
-from .model import Field, Function, Named, Statement, Value, exclude
+from .model import Field, Function, Named, Statement, Unknown, Value, exclude
 from .objects import FREE, Element
 from .owning import is_of_member
 from .program import Key, Program, Step, Wire
@@ -108,7 +108,10 @@ class Effects:
         """A lambda or function object that is called here, unless it is connected where it was handed to."""
         if statement.given and statement.given in self.connected:
             return []
-        named = [Named('lambda', statement.function)] if statement.function else self.targets.named(statement.named or Named('unknown'))
+        held = Named('lambda', statement.function) if statement.function else statement.named or Named('unknown')
+        if not self.targets.is_known(held):
+            self.whole.unknown.append(Unknown(statement.name, statement.place.words, statement.place, function.shown))
+        named = self.targets.named(held)
         steps = []
         for one in named:
             for element, key in self.targets.of(one, statement.on, function.cls):

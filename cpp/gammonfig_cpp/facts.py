@@ -24,7 +24,7 @@ ERROR = 3
 # Headers that clang has of its own.
 OF_CLANG = ('stddef.h', 'stdarg.h', 'float.h', 'limits.h', 'stdint.h')
 # The modules that facts depend on.
-READERS = ('bodies', 'calls', 'classes', 'comparing', 'conditional', 'connects', 'context', 'facts', 'holders', 'libclang', 'libraries', 'model', 'naming_callees',
+READERS = ('bodies', 'calls', 'classes', 'comparing', 'conditional', 'connects', 'context', 'facts', 'holders', 'keeping', 'libclang', 'libraries', 'model', 'naming_callees',
            'possessing', 'precompiled', 'qtmodel', 'quick', 'special', 'units', 'values')
 
 

@@ -4,14 +4,12 @@ from __future__ import annotations
 import re
 
 from .context import Context
-from .libclang import NAMES, VARIABLES, Cursor, K, bare, strip
-from .model import Named
+from .libclang import NAMES, VARIABLES, Cursor, K, strip
 
 PUTTING = {'append', 'push_back', 'prepend', 'insert', 'enqueue', 'push', 'emplace_back', 'operator=', 'operator+=', 'replace', 'push_front',
            'emplace', 'swap', 'set_value', 'reset', 'try_emplace', 'insert_or_assign', 'emplace_front'}
 TAKING_OUT = {'clear', 'erase', 'pop_back', 'pop_front', 'removeAt', 'remove', 'removeFirst', 'removeLast', 'removeAll', 'removeOne',
               'removeIf', 'resize', 'assign'}
-FUNCTION_OBJECTS = ('function', 'move_only_function')
 WEAK = ('QPointer', 'QWeakPointer', 'weak_ptr')
 OF_OWNERS = re.compile(r'(unique_ptr|shared_ptr|QSharedPointer|QScopedPointer)<')
 
@@ -49,31 +47,12 @@ class Holders:
             statement.cls = cls
             self.context.calls.possessing.tell(statement, on)
 
-    def keep(self, on: Cursor | None, given: list[Cursor]) -> None:
-        """A function object is kept in a variable."""
-        target = strip(on) if on is not None else None
-        named = target.referenced if target is not None and target.kind in NAMES else None
-        if named is not None and named.kind in VARIABLES and given:
-            self.keep_in(str(self.context.variable_key(named)), given[-1])
-
-    def keep_in(self, key: str, given: Cursor) -> None:
-        """A variable holds a lambda, or the function object that a parameter or another variable holds."""
-        value = bare(given)
-        constructs = value.kind == K.CALL_EXPR and value.referenced is not None and value.referenced.kind == K.CONSTRUCTOR
-        named = value.referenced if value.kind in NAMES else None
-        if value.kind == K.LAMBDA_EXPR or constructs:
-            found = self.context.callees.lambda_in(given)
-            if found is not None:
-                self.context.facts.callables.append((key, Named('lambda', found)))
-        elif named is not None and named.kind in VARIABLES and self.context.classes.holder(named.type) in FUNCTION_OBJECTS:
-            self.context.facts.callables.append((key, Named('parameter', str(self.context.variable_key(named)))))
-
     def _put(self, on: Cursor, given: list[Cursor]) -> None:
-        context, target = self.context, strip(on)
+        context, keeping, target = self.context, self.context.calls.keeping, strip(on)
         named = target.referenced if target.kind in NAMES else None
         for argument in given:
-            if context.callees.is_callable(argument) and named is not None and named.kind in VARIABLES:
-                context.facts.callables.append((str(context.variable_key(named)), context.callees.of(argument)))
+            if context.callees.is_callable(argument) or keeping.holds_function(argument.type):
+                keeping.keep(on, [argument])
                 continue
             if not context.classes.of(argument.type):
                 continue

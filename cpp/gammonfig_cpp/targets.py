@@ -26,6 +26,15 @@ class Targets:
             return []
         return [x for n in self.whole.callables.get(named.key, ()) for x in self.named(n, seen + (named.key,))]
 
+    def is_known(self, named: Named, seen: frozenset[str] = frozenset()) -> bool:
+        """Whether all is known that a variable holds which is called: not so of a parameter that others than what was read hand over."""
+        if named.kind != 'parameter' or named.key in seen:
+            return named.kind != 'unknown'
+        function = named.key[2:].rsplit(':', 1)[0] if named.key.startswith('P:') else ''
+        method, held = self.whole.method(function), self.whole.callables.get(named.key, [])
+        from_outside = function in self.objects.outside or method is not None and method.virtual
+        return bool(held) and not from_outside and all(self.is_known(one, seen | {named.key}) for one in held)
+
     def of(self, named: Named, on: Value, fallback: str) -> list[Target]:
         kind, program = named.kind, self.program
         if kind == 'parameter':

@@ -40,6 +40,17 @@ def test_function_objects_that_are_handed_on_and_kept() -> None:
     assert case('connects').body('keepAll') == ['call this.to_Keeper.Keeper_made("");', *calls], 'they are called where they are kept'
 
 
+def test_function_objects_that_are_known_are_not_listed() -> None:
+    found = case('functions')
+    for name, to in (('First', 52), ('Late', 22), ('Named', 23), ('All', 24), ('Cleared', 28), ('Local', 38)):
+        assert found.body(f'call{name}') == [f'call this.lambda_{to}();']
+    assert found.body('callBound') == ['call this.to_Bell_bell.ring();']
+    assert found.body('callPointer') == ['call this.to_Functions.toll("");']
+    assert found.body('further') == ['call this.lambda_40();']
+    unknown = [(u.kind, u.what, u.place.line) for u in found.linked.whole.unknown]
+    assert unknown == [('function object', what, line) for what, line in (('strange_()', 44), ('empty_()', 45), ('given()', 46), ('given()', 48))]
+
+
 def test_a_helper_is_read_at_its_calls() -> None:
     assert case('connects').place('wire Sender plain() -> Receiver byHelper()').split('\t')[2:4] == ['connects.cpp', '65']
 
