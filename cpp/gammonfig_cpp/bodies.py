@@ -1,6 +1,8 @@
 """What declarations and bodies do, in the order of the text."""
 from __future__ import annotations
 
+from typing import Callable
+
 from .classes import OWNING
 from .comparing import Comparing
 from .conditional import Conditional
@@ -24,6 +26,12 @@ class Bodies:
         self.closures: list[Cursor] = []
         # By the variable of a loop what it goes over.
         self.ranges: dict[str, Cursor] = {}
+        loop = self.conditional.loop
+        self._handlers: dict[object, Callable[[Cursor], None]] = {
+            K.CALL_EXPR: context.calls.call, K.LAMBDA_EXPR: self._loose_lambda, K.VAR_DECL: self.variable, K.CXX_NEW_EXPR: self.new,
+            K.CXX_DELETE_EXPR: self._delete, K.RETURN_STMT: self._return, K.CXX_FOR_RANGE_STMT: self._for_each, K.FOR_STMT: loop,
+            K.WHILE_STMT: loop, K.DO_STMT: loop, K.SWITCH_STMT: self.conditional.switch, K.IF_STMT: self.conditional.branch,
+            K.CONDITIONAL_OPERATOR: self.conditional.choice, K.COMPOUND_STMT: self.conditional.block}
 
     # Declarations
 
@@ -116,7 +124,7 @@ class Bodies:
         outer, self.locals = self.locals, []
         kids = list(cursor.get_children())
         with self.context.within(function), self.comparing.fresh():
-            self.context.changed = self.context.values.changed_parameters(kids[-1]) if kids else set()
+            self.context.changed = self.context.values.changed_parameters(kids[-1]) if kids and function.parameters else set()
             self._owned_parameters(kids)
             at = 0
             while at < len(kids):
@@ -187,7 +195,7 @@ class Bodies:
         outer_locals, self.locals = self.locals, []
         with context.within(function), self.comparing.fresh():
             for body in [k for k in cursor.get_children() if k.kind == K.COMPOUND_STMT]:
-                context.changed = context.values.changed_parameters(body)
+                context.changed = context.values.changed_parameters(body) if function.parameters else set()
                 self.walk(body)
             self._end_scope()
         self.locals = outer_locals
@@ -240,12 +248,7 @@ class Bodies:
 
     def walk(self, cursor: Cursor) -> None:
         kind = cursor.kind
-        handler = {K.CALL_EXPR: self.context.calls.call,
-                   K.LAMBDA_EXPR: self._loose_lambda, K.VAR_DECL: self.variable, K.CXX_NEW_EXPR: self.new, K.CXX_DELETE_EXPR: self._delete,
-                   K.RETURN_STMT: self._return, K.CXX_FOR_RANGE_STMT: self._for_each, K.FOR_STMT: self.conditional.loop,
-                   K.WHILE_STMT: self.conditional.loop, K.DO_STMT: self.conditional.loop, K.SWITCH_STMT: self.conditional.switch,
-                   K.IF_STMT: self.conditional.branch, K.CONDITIONAL_OPERATOR: self.conditional.choice,
-                   K.COMPOUND_STMT: self.conditional.block}.get(kind)
+        handler = self._handlers.get(kind)
         if handler is not None:
             handler(cursor)
             return

@@ -220,8 +220,9 @@ class Classes:
                 kind = MARKS.get(mark.spelling, kind)
         key = str(inner.canonical.get_usr())
         place = self.context.declared(inner) if cls.inside else self.context.place(inner, 0)
-        cls.methods[key] = Method(key, inner.spelling, inner.displayname, kind, place, bool(inner.is_virtual_method()),
-                                  bool(inner.is_static_method()), bool(inner.is_const_method()), bool(inner.is_pure_virtual_method()),
+        is_virtual = bool(inner.is_virtual_method())
+        cls.methods[key] = Method(key, inner.spelling, inner.displayname, kind, place, is_virtual, bool(inner.is_static_method()),
+                                  bool(inner.is_const_method()), is_virtual and bool(inner.is_pure_virtual_method()),
                                   self.parameters(list(inner.get_arguments())))
 
     @staticmethod

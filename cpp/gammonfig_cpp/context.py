@@ -4,6 +4,7 @@ from __future__ import annotations
 import os
 import re
 from contextlib import contextmanager
+from functools import cache
 from typing import TYPE_CHECKING, Iterator
 
 from .libclang import FUNCTIONS, CxxType, K, Cursor, T, is_instance, template_of
@@ -61,9 +62,12 @@ class Context:
         known = self._paths.get(name)
         if known is None:
             path = real(name)
-            inside = any(path.startswith(root) for root in self.roots) and not is_generated(path)
-            known = self._paths[name] = (path, inside)
+            known = self._paths[name] = (path, self.is_own(path) and not is_generated(path))
         return known
+
+    def is_own(self, path: str) -> bool:
+        """Whether a file lies among the application's."""
+        return any(path.startswith(root) for root in self.roots)
 
     def is_inside(self, cursor: Cursor) -> bool:
         file = cursor.location.file
@@ -250,6 +254,11 @@ def sort_of(cxx_type: object) -> tuple[str, str]:
     kind = cxx_type.get_canonical()  # type: ignore[attr-defined]
     if kind.kind in (T.LVALUEREFERENCE, T.RVALUEREFERENCE):
         kind = kind.get_pointee().get_canonical()
-    name = re.sub(r'^const\s+|\s*const$', '', str(kind.spelling))
+    name = unqualified(str(kind.spelling))
     number = T.BOOL.value <= kind.kind.value <= T.LONGDOUBLE.value or kind.kind == T.ENUM or name.startswith('QFlags<')
     return ('int' if number else 'QString'), name
+
+
+@cache
+def unqualified(name: str) -> str:
+    return re.sub(r'^const\s+|\s*const$', '', name)

@@ -5,6 +5,7 @@ import hashlib
 import os
 import pickle
 import time
+from typing import Any
 
 from . import model
 from .bodies import Bodies
@@ -14,9 +15,11 @@ from .cleaning import mark_used
 from .connects import Connects
 from .context import Context
 from .libclang import cindex, quick, version
+from .libraries import Includes
 from .model import Class, Facts
 from .naming_callees import Callees
 from .precompiled import Headers, stamp
+from .templates import any_in
 from .units import ANNOTATIONS, Unit, is_generated, real
 from .values import Values
 
@@ -25,7 +28,7 @@ ERROR = 3
 OF_CLANG = ('stddef.h', 'stdarg.h', 'float.h', 'limits.h', 'stdint.h')
 # The modules that facts depend on.
 READERS = ('bodies', 'calls', 'classes', 'comparing', 'conditional', 'connects', 'context', 'facts', 'holders', 'keeping', 'libclang', 'libraries', 'model', 'naming_callees',
-           'possessing', 'precompiled', 'qtmodel', 'quick', 'special', 'units', 'values')
+           'possessing', 'precompiled', 'qtmodel', 'quick', 'special', 'templates', 'units', 'values')
 
 
 def read_unit(unit: Unit, roots: list[str], known: dict[str, Class], headers: Headers | None = None) -> Facts:
@@ -41,13 +44,11 @@ def _read(unit: Unit, roots: list[str], known: dict[str, Class], headers: Header
     facts = context.facts
     quick.forget()
     try:
-        shared = ['-include-pch', headers.path] if headers is not None else []
-        tree = cindex.Index.create(excludeDecls=True).parse(unit.source, args=[*unit.flags, *ANNOTATIONS, *shared])
+        tree, included = _parsed(unit, context, headers)
     except cindex.TranslationUnitLoadError:
         facts.errors.append(f'{unit.source}: libclang can\'t read this file with its flags')
         return facts
     facts.errors = errors_of(tree, context)
-    included = {real(i.include.name) for i in tree.get_includes()}
     facts.files = sorted(included | {unit.source} | set(headers.files if headers is not None else ()))
     context.classes, context.values, context.callees = Classes(context, known), Values(context), Callees(context)
     context.calls, context.connects = Calls(context), Connects(context)
@@ -57,8 +58,23 @@ def _read(unit: Unit, roots: list[str], known: dict[str, Class], headers: Header
         if not cls.inside and cls.defined:
             known[key] = cls
     context.close()
+    quick.forget()
     facts.seconds = time.process_time() - begun
     return facts
+
+
+def _parsed(unit: Unit, context: Context, headers: Headers | None) -> tuple[Any, set[str]]:
+    """The tree of a unit, and the files that it includes. Instances of templates are made where the application has templates: that its
+    files are found by their text may miss one."""
+    shared = ['-include-pch', headers.path] if headers is not None else []
+    has_templates = any_in(Includes(context.roots).files(unit))
+    while True:
+        tree = cindex.Index.create(excludeDecls=True).parse(unit.source, args=[*unit.flags, *ANNOTATIONS, *shared],
+                                                            options=0 if has_templates else cindex.TranslationUnit.PARSE_INCOMPLETE)
+        included = {real(i.include.name) for i in tree.get_includes()}
+        if has_templates or not any_in(path for path in included if context.is_own(path)):
+            return tree, included
+        has_templates = True
 
 
 def errors_of(tree: object, context: Context) -> list[str]:
@@ -69,7 +85,7 @@ def errors_of(tree: object, context: Context) -> list[str]:
             continue
         file = found.location.file
         name = context.path(file.name)[0] if file else context.facts.source
-        inside = any(name.startswith(root) for root in context.roots)
+        inside = context.is_own(name)
         if not inside and found.severity == ERROR:
             continue
         what = found.spelling

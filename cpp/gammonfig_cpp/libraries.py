@@ -45,6 +45,13 @@ class Includes:
 
     def libraries(self, unit: Unit) -> set[Library]:
         """The headers of libraries that a unit includes, itself or by headers of the application."""
+        return self._reached(unit)[1]
+
+    def files(self, unit: Unit) -> set[str]:
+        """The unit's source, and the headers of the application that it includes."""
+        return self._reached(unit)[0]
+
+    def _reached(self, unit: Unit) -> tuple[set[str], set[Library]]:
         folders, found, seen, todo = folders_of(unit), set[Library](), set[str](), [unit.source]
         while todo:
             path = todo.pop()
@@ -59,7 +66,7 @@ class Includes:
                     todo.append(whole)
                 elif SHARED.match(name) and not is_of_qt(folder, name) and (folder or self.folder(DEFAULT, name)):
                     found.add(Library(folder, name))
-        return found
+        return seen, found
 
 
 def always(directives: list[tuple[str, str, str]]) -> list[tuple[str, bool]]:

@@ -1,0 +1,27 @@
+"""Whether a unit has templates of its own. Where it has none, clang needn't make at its end the instances that are asked for: nothing is
+read of those of Qt's templates, and making them takes a third of the time of a parse and more."""
+from __future__ import annotations
+
+import re
+from functools import cache
+from typing import Iterable
+
+from .precompiled import stamp
+
+# A template, a lambda with types of its own or with `auto` among its parameters, and a function with `auto` among them.
+OWN = re.compile(r'\btemplate\b|\]\s*<\s*(?:typename|class|auto)\b|\b(?!(?:for|if|while|switch)\b)\w+\s*\([^();{}]*\bauto\b'
+                 r'|\]\s*\([^()]*\bauto\b|,\s*(?:const\s+)?auto\b')
+
+
+def any_in(paths: Iterable[str]) -> bool:
+    return any(_stands_in(path, *stamp(path)) for path in paths)
+
+
+@cache
+def _stands_in(path: str, size: int, time: int) -> bool:
+    """Whether a template stands in a file of this size and time; in one that can't be read one may."""
+    try:
+        with open(path, encoding='utf-8', errors='replace') as file:
+            return OWN.search(file.read()) is not None
+    except OSError:
+        return True
