@@ -12,8 +12,8 @@ MOST = 200
 MEANING = {
     'lambda': 'A lambda that isn\'t connected is taken to be called where it stands.',
     'functor': 'A lambda that is handed to a function of a library is taken to be called there.',
-    'function pointer': 'What a pointer to a function leads to is known where one is handed on as an argument alone.',
-    'function object': 'What a function object calls is known where a lambda is put into it alone.',
+    'function pointer': 'What a pointer to a function leads to isn\'t known where nothing that was read, or something unknown, is put into it.',
+    'function object': 'What a function object calls isn\'t known where nothing that was read, or something unknown, is put into it.',
     'undecided call': 'A call of which it isn\'t known what it calls is left out.',
     'nested event loop': 'A nested event loop delivers what is posted, and what a user does, while the slot runs. That isn\'t drawn.',
     'wiring of Qt': 'Qt\'s own objects talk to each other after this call. Of that only what the table says is drawn.',

@@ -5,9 +5,10 @@ from dataclasses import replace
 
 import pytest
 
-from reading import CASES, Unit, facts, flags
+from reading import CASES, facts, flags
 from gammonfig_cpp import facts as reader
 from gammonfig_cpp.templates import any_in
+from gammonfig_cpp.units import Unit
 
 
 @pytest.mark.parametrize('words', ['template <class T> T last(T value);', 'connect(a, [](const auto &it) { it.go(); });',
