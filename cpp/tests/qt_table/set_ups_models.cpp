@@ -95,9 +95,74 @@ public:
     }
 };
 
+// A view of which it is seen what Qt connects to its functions, and its delegate.
+class Told : public QTableView
+{
+public:
+    void currentChanged(const QModelIndex &at, const QModelIndex &before) override
+    {
+        called("currentChanged");
+        QTableView::currentChanged(at, before);
+    }
+    void selectionChanged(const QItemSelection &chosen, const QItemSelection &left) override
+    {
+        called("selectionChanged");
+        QTableView::selectionChanged(chosen, left);
+    }
+    void dataChanged(const QModelIndex &first, const QModelIndex &last, const QList<int> &roles) override
+    {
+        called("dataChanged");
+        QTableView::dataChanged(first, last, roles);
+    }
+    void rowsInserted(const QModelIndex &above, int first, int last) override
+    {
+        called("rowsInserted");
+        QTableView::rowsInserted(above, first, last);
+    }
+    void rowsAboutToBeRemoved(const QModelIndex &above, int first, int last) override
+    {
+        called("rowsAboutToBeRemoved");
+        QTableView::rowsAboutToBeRemoved(above, first, last);
+    }
+    void reset() override
+    {
+        called("reset");
+        QTableView::reset();
+    }
+    void commitData(QWidget *editor) override
+    {
+        called("commitData");
+        QTableView::commitData(editor);
+    }
+    void closeEditor(QWidget *editor, QAbstractItemDelegate::EndEditHint hint) override
+    {
+        called("closeEditor");
+        QTableView::closeEditor(editor, hint);
+    }
+
+private:
+    static void called(const char *name) { recorder::calledOf("QAbstractItemView", name); }
+};
+
+class ToldDelegate : public QStyledItemDelegate
+{
+public:
+    void setModelData(QWidget *editor, QAbstractItemModel *model, const QModelIndex &at) const override
+    {
+        recorder::calledOf("QAbstractItemDelegate", "setModelData");
+        QStyledItemDelegate::setModelData(editor, model, at);
+    }
+    void destroyEditor(QWidget *editor, const QModelIndex &at) const override
+    {
+        recorder::calledOf("QAbstractItemDelegate", "destroyEditor");
+        QStyledItemDelegate::destroyEditor(editor, at);
+    }
+};
+
 QTableView *edited(Scene &s)
 {
-    auto *it = new QTableView;
+    auto *it = new Told;
+    it->setItemDelegate(s.other(new ToldDelegate));
     s.model = s.other(new Edited(3, 2));
     it->setModel(s.model);
     s.other(it->selectionModel());
@@ -166,6 +231,8 @@ void setUpModels()
     SET_UP(QStandardItemModel, "filled", auto *it = s.filledModel(); return it;)
     SET_UP(QStandardItemModel, "shown by a view", auto *it = s.filledModel(); auto *shown = s.other(new QTreeView);
            shown->setModel(it); s.other(shown->selectionModel()); shown->setCurrentIndex(it->index(0, 0)); return it;)
+    SET_UP(QStandardItemModel, "shown by a view that tells", auto *it = s.filledModel(); auto *shown = s.other(new Told);
+           shown->setModel(it); s.other(shown->selectionModel()); return it;)
     SET_UP(QStringListModel, "three rows", auto *it = new QStringListModel({"c", "a", "b"}); s.model = it; return it;)
     SET_UP(QSortFilterProxyModel, "filtered", auto *it = proxy(s); it->setFilterFixedString("row"); s.model = it; return it;)
     SET_UP(QSortFilterProxyModel, "of all", auto *it = proxy(s); s.model = it; return it;)
