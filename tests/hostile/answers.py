@@ -39,6 +39,13 @@ NODES = NODE + rb"(?: " + NODE + rb")+"
 NO_CERTIFICATE = re.compile(
     rb"no (?:wire [0-9]+|type (?:" + NODE + rb"|binding " + NAME + rb")|(?:cycle|destroy|high) " + NODES + rb")\n"
 )
+SETTLING = re.compile(
+    rb"settling 1\nbound [0-9]+ [0-9]+\n(?:" + NODE + rb" [0-9]+ [0-9]+(?: ~" + NAME + rb")*\n)+(?:round [0-9]+(?: " + NODE + rb")+\n)*"
+)
+NO_SETTLING = re.compile(
+    rb"no (?:wire [0-9]+|type (?:" + NODE + rb"|binding " + NAME + rb")|(?:cycle|destroy) " + NODES + rb"|high(?: " + NODE + rb")?)\n"
+)
+BESIDE_SETTLING = re.compile(rb"(?:" + built.WARNED + rb")?(?:bound [0-9]+, step [0-9]+\n)?(?:" + built.WARNED + rb")?")
 ENTRIES = lines(
     rb"event [0-9]+(?: refused (?:3[0-9]|4[0-689]))?",
     rb"[0-9]+ emit " + MEMBER + ARGUMENTS + rb"(?: blocked)?",
@@ -68,7 +75,7 @@ def is_number(word, most):
 def is_command(words):
     """Whether the words are a command line."""
     if words[:1] != ["run"]:
-        return words in (["meta"], ["certify"], ["check"])
+        return words in (["meta"], ["certify"], ["check"], ["certify", "--settling"], ["check", "--settling"])
     options = words[1:]
     if options[:1] == ["--unchecked"]:
         if len(options) < 2 or not is_number(options[1], MOST_DEPTH):
@@ -83,7 +90,7 @@ class Wanted:
 
     def __init__(self, words, text, judges=True):
         self.words, self.names, self.judges = case_files.narrow(words), case_files.texts_of(words), judges
-        self.is_wide = self.words != words
+        self.is_wide, self.is_settling = self.words != words, "--settling" in self.words
         self.parts = built.texts(text) if is_command(self.words) and len(text) <= LARGEST_INPUT else []
         self.is_usage = not self.names or len(self.parts) != len(self.names)
 
@@ -109,7 +116,8 @@ class Wanted:
         number = grammar.program_refusal(given["program"], self.is_wide)
         if number:
             return b"refused %d\n" % number, True
-        if "certificate" in given and not grammar.is_certificate(given["certificate"]):
+        is_certificate = grammar.is_settling_certificate if self.is_settling else grammar.is_certificate
+        if "certificate" in given and not is_certificate(given["certificate"]):
             return b"refused 77\n", False
         return (grammar.script_refusal(given["script"]) if "script" in given else None), False
 
@@ -134,6 +142,8 @@ class Wanted:
         errors = built.behind_refused(answer.errors) if self.words[0] == "run" else answer.errors
         if self.words == ["meta"] or "--unchecked" in self.words or sum(map(len, self.parts)) > LARGEST_TOLD:
             return "nothing was judged, and something is told" if errors else None
+        if self.is_settling:
+            return None if BESIDE_SETTLING.fullmatch(errors) else "this isn't what is told beside a yes"
         told = built.BESIDE_YES.fullmatch(errors)
         if not told or (told[1] is None) != (self.words[0] == "run"):
             return "this isn't what is told beside a yes"
@@ -155,7 +165,7 @@ class Wanted:
         return None if answer.status == 0 and CLASSES.fullmatch(answer.output) else "these are no classes"
 
     def why_not_certify(self, answer):
-        form = {0: CERTIFICATE, 3: NO_CERTIFICATE}.get(answer.status)
+        form = ({0: SETTLING, 3: NO_SETTLING} if self.is_settling else {0: CERTIFICATE, 3: NO_CERTIFICATE}).get(answer.status)
         holds = form and form.fullmatch(answer.output)
         return None if holds else "this is no certificate, and no reason that there is none"
 

@@ -85,8 +85,19 @@ def script_refusal(text):
 
 def is_certificate(text):
     """Whether a text is a certificate."""
-    parts = iter([Reading.version, Reading.bound])
-    node = Reading.node
+    found = next(filter(None, map(tokens, text.split(b"\n"))), [])
+    is_second = len(found) == 2 and found[1].isdigit() and number_of(found[1]) == 2
+    return has_lines(text, [Reading.version, Reading.bound], Reading.node_of_second if is_second else Reading.node)
+
+
+def is_settling_certificate(text):
+    """Whether a text is a settling certificate (docs/settling.md)."""
+    return has_lines(text, [Reading.settling_version, Reading.bound_and_step], Reading.node_or_set)
+
+
+def has_lines(text, first, other):
+    """Whether the lines of a text that have tokens are these parts, and then any number of another one."""
+    parts = iter(first)
     count = 0
     for line in text.split(b"\n"):
         found = tokens(line)
@@ -94,11 +105,9 @@ def is_certificate(text):
             return False
         if found:
             count += 1
-            if not is_line(line, next(parts, node)):
+            if not is_line(line, next(parts, other)):
                 return False
-            if count == 1 and number_of(found[1]) == 2:
-                node = Reading.node_of_second
-    return count >= 2
+    return count >= len(first)
 
 
 def is_line(line, part):
@@ -482,15 +491,45 @@ class Reading:
     def node_of_second(self):
         """As version 2 has it: an item of a set may be `~C`."""
         self.ranked()
+        self.items_of_second()
+
+    def items_of_second(self):
         while not self.ends():
             self.has(b"~")
             self.name()
 
     def ranked(self):
+        self.named()
+        self.number()
+
+    def named(self):
         if self.has(b"~"):
             self.name()
         else:
             self.source()
             if self.next() == b"(":
                 self.parameters(self.type)
+
+    # ---- settling certificates
+
+    def settling_version(self):
+        self.need(b"settling")
+        if self.number() != 1:
+            raise Refused
+
+    def bound_and_step(self):
+        self.bound()
         self.number()
+
+    def node_or_set(self):
+        """The line of a set, which has a number behind `round`; or that of a node, as version 2 has it, with a step."""
+        if self.next() == b"round" and self.found[self.at + 1 : self.at + 2] != [b"."]:
+            self.need(b"round")
+            self.number()
+            self.named()
+            while not self.ends():
+                self.named()
+        else:
+            self.ranked()
+            self.number()
+            self.items_of_second()
