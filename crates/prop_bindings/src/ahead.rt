@@ -1,15 +1,13 @@
 //! What the expressions of bindings read: the objects, where some properties are to have other values.
 
-ghost use Rattle.std.specs.Prelude.{◌≡◌, Some, IfSome};
+ghost use Rattle.std.specs.Prelude.{◌≡◌};
 ghost use Rattle.std.specs.Option.{option_copied};
-ghost use Rattle.indexmap.specs.IndexMap.{get};
-ghost use Rattle.binding_graph.specs.code.Keys.{key_of, same_key};
 ghost use Rattle.expressions.specs.Evaluation.{Evaluates};
 ghost use Rattle.prop_bindings.specs.Values.{values_in};
 ghost use Rattle.prop_bindings.specs.Plans.{assigned};
 ghost use Rattle.prop_bindings.specs.code.Parts.{value_ahead};
 
-use crate::plans::value_given;
+use crate::plans::value_near;
 use basic_types::{ObjectId, Value};
 use binding_graph::Place;
 use expressions::{self, EvalFault};
@@ -47,6 +45,7 @@ impl<'w> expressions::World<SourceProperty> for Ahead<'w> {
 
 /// The value that a property is to have, if it is to have one, or its own. Where it is to have one, that likely stands at
 /// this place among them.
+#[inline(always)]
 pub fn value_ahead<'w>(
     objects: &'w Tree,
     values: &'w IndexMap<(usize, usize), Value>,
@@ -62,36 +61,6 @@ pub fn value_ahead<'w>(
         Some(value) => Some(value),
         None => Some(own),
     }
-}
-
-/// The value that a property is to have, which likely stands at this place among them: a comparison tells that it does, and
-/// only where it doesn't it is looked up.
-fn value_near<'w>(
-    values: &'w IndexMap<(usize, usize), Value>,
-    likely: usize,
-    place: &Place,
-) -> Option<&'w Value>
-    ensures { option_copied result ≡ get same_key values.now (key_of place.now) }
-{
-    match value_at(values, likely, place) {
-        Some(value) => Some(value),
-        None => value_given(values, place),
-    }
-}
-
-/// The value at this place among them, if it is the one that the property is to have.
-fn value_at<'w>(
-    values: &'w IndexMap<(usize, usize), Value>,
-    position: usize,
-    place: &Place,
-) -> Option<&'w Value>
-    ensures { IfSome result (λ value. get same_key values.now (key_of place.now) ≡ Some value.now) }
-{
-    let (key, value) = values.as_slice().get_index(position)?;
-    if key.0 != place.object.number() || key.1 != place.property {
-        return None;
-    }
-    Some(value)
 }
 
 /// A copy of a value that was found; `BadType` where none was.

@@ -15,9 +15,8 @@ ghost use Rattle.binding_graph.specs.code.Numbering.{places_of};
 ghost use Rattle.binding_graph.specs.code.Orders.{AreBound, pass};
 ghost use Rattle.prop_bindings.specs.code.Parts.{AddsChanged, GivesOnly, IsSoundBySome, StaySound, ahead, value_ahead};
 
-use crate::ahead::value_ahead;
 use crate::evaluation::evaluate_all;
-use crate::plans::{ChangedPlaces, Planned};
+use crate::plans::{ChangedPlaces, Planned, value_near};
 use basic_types::Value;
 use binding_graph::{Installed, Numbered, Place};
 use indexmap::IndexMap;
@@ -95,6 +94,7 @@ fn changed_among(
 
 /// Adds the property to those that changed, unless it still reads as it did once these have their values. Its own likely
 /// stands at this place among them.
+#[inline(always)]
 fn add_changed(
     place: &Place,
     tree: &Tree,
@@ -138,6 +138,7 @@ fn stays_alone(place: &Place, tree: &Tree, value: &Value) -> bool
 }
 
 /// Whether the property still reads as it did once these have their values. Its own likely stands at this place among them.
+#[inline(always)]
 fn stays(
     place: &Place,
     tree: &Tree,
@@ -147,12 +148,11 @@ fn stays(
     ensures { IsTrue result ↔ (option_map (seen tree.now) (value_ahead values.now tree.now place.now)
         ≡ option_map (seen tree.now) (values_in tree.now place.now)) }
 {
-    match (
-        value_ahead(tree, values, likely, place),
-        tree.value(place.object, place.property),
-    ) {
-        (Some(new), Some(old)) => tree.is_same(new, old),
-        (None, None) => true,
-        _ => false,
+    let Some(own) = tree.value(place.object, place.property) else {
+        return true;
+    };
+    match value_near(values, likely, place) {
+        Some(new) => tree.is_same(new, own),
+        None => true,
     }
 }

@@ -9,5 +9,5 @@ mod planned;
 pub use assignment::Assignment;
 pub use changed_places::ChangedPlaces;
 pub use fault::{BindFault, WriteFault};
-pub use given::value_given;
+pub use given::value_near;
 pub use planned::{Planned, PlannedBind, PlannedGroup, PlannedWrite};

@@ -83,6 +83,7 @@ fn present_value(
 }
 
 /// Whether the value is of the type of a living object's property.
+#[inline(always)]
 pub fn fits(meta: &Meta, tree: &Tree, place: &Place, value: &Value) -> bool
     ensures { IsTrue result ↔ FitsAt meta.now tree.now place.now value.now }
 {

@@ -55,11 +55,16 @@ impl<'p> Remaining<'p> {
         Some(first)
     }
 
-    /// Puts a block before what is left; without memory nothing changes.
+    /// Puts a block before what is left; without memory nothing changes. Behind the last statement of a block no memory is
+    /// needed.
     pub fn put(&mut self, block: &'p [Statement]) -> Result<(), AllocError>
         ensures ok { OnOk result (self.new ≡ block.now ++ self.old) }
         ensures err { OnErr result (self.new ≡ self.old) }
     {
+        if self.block.is_empty() {
+            self.block = block;
+            return Ok(());
+        }
         self.outer.push(self.block)?;
         self.block = block;
         Ok(())

@@ -41,6 +41,7 @@ fn show_reference(objects: &Tree, reference: Option<ObjectId>) -> Result<Shown, 
 }
 
 /// Values as they are written down.
+#[inline(always)]
 pub fn show_all(alloc: Global, objects: &Tree, values: &[Value]) -> Result<ShownValues, AllocError>
     ensures { IfOk result (λ texts. texts ≡ all_shown objects.now values.now) }
 {

@@ -60,8 +60,8 @@ impl<'w> Telling<'w> {
     {
         let followers = self.followers(&[*first]);
         let mut lines = Vec::with_capacity(alloc, followers.len() + 1)?;
-        lines.push(self.line(cause, first)?)?;
-        self.add_followers(followers, &mut lines)?;
+        lines.push(self.line(cause, first, 0)?)?;
+        self.add_followers(followers, 1, &mut lines)?;
         Ok(lines)
     }
 
@@ -77,7 +77,7 @@ impl<'w> Telling<'w> {
         ensures err { OnErr result (trace.new ≡ trace.old) }
     {
         if self.followers(&[*first]).is_empty() {
-            let line = self.line(cause, first)?;
+            let line = self.line(cause, first, 0)?;
             return trace.push(line);
         }
         let lines = self.change(trace.allocator(), cause, first)?;
@@ -103,7 +103,7 @@ impl<'w> Telling<'w> {
         lines.push(Entry::At(self.depth, EntryKind::Grouped))?;
         self.add_sets(sets, &mut lines)?;
         let followers = self.followers(written);
-        self.add_followers(followers, &mut lines)?;
+        self.add_followers(followers, written.len(), &mut lines)?;
         Ok(lines)
     }
 
@@ -143,8 +143,13 @@ impl<'w> Telling<'w> {
         rest
     }
 
-    /// Adds the lines of properties that change with those that are written or bound.
-    fn add_followers(&self, followers: &[Place], lines: &mut Vec<Entry>) -> Result<(), AllocError>
+    /// Adds the lines of properties that change with those that are written or bound, of which there are so many.
+    fn add_followers(
+        &self,
+        followers: &[Place],
+        written: usize,
+        lines: &mut Vec<Entry>,
+    ) -> Result<(), AllocError>
         requires have { HaveValues self.now.meta.now self.now.tree.now followers.now }
         requires will_have { HaveValues self.now.meta.now
             (after self.now.planned.now self.now.tree.now) followers.now }
@@ -154,15 +159,17 @@ impl<'w> Telling<'w> {
             (after self.now.planned.now self.now.tree.now) self.now.depth followers.now
             lines.old.items lines.new.items) }
     {
+        let mut likely = written;
         for place in followers {
-            lines.push(self.line(Cause::Follow, place)?)?;
+            lines.push(self.line(Cause::Follow, place, likely)?)?;
+            likely = likely.saturating_add(1);
         }
         Ok(())
     }
 
-    /// The line of a property with the value that it will have.
+    /// The line of a property with the value that it will have, which likely stands at this place among the planned ones.
     #[inline(always)]
-    fn line(&self, cause: Cause, place: &Place) -> Result<Entry, AllocError>
+    fn line(&self, cause: Cause, place: &Place, likely: usize) -> Result<Entry, AllocError>
         requires has { HasValue self.now.meta.now self.now.tree.now place.now }
         requires will_have { HasValue self.now.meta.now
             (after self.now.planned.now self.now.tree.now) place.now }
@@ -171,7 +178,7 @@ impl<'w> Telling<'w> {
         ensures { IfOk result (IsTold self.now.meta.now
             (after self.now.planned.now self.now.tree.now) self.now.depth cause place.now) }
     {
-        let Some(value) = self.value(place) else {
+        let Some(value) = self.value(place, likely) else {
             unreachable!()
         };
         self.line_with(cause, place, value)
@@ -192,13 +199,13 @@ impl<'w> Telling<'w> {
         line_of(self.meta, self.tree, self.depth, cause, place, value)
     }
 
-    /// The value that a property will have.
+    /// The value that a property will have, which likely stands at this place among the planned ones.
     #[inline(always)]
-    fn value(&self, place: &Place) -> Option<&Value>
+    fn value(&self, place: &Place, likely: usize) -> Option<&Value>
         ensures { option_copied result ≡
             values_in (after self.now.planned.now self.now.tree.now) place.now }
     {
-        let planned = self.planned.value(place);
+        let planned = self.planned.value_near(likely, place);
         let own = self.tree.value(place.object, place.property)?;
         match planned {
             Some(value) => Some(value),

@@ -5,7 +5,7 @@ ghost use Rattle.std.specs.Option.{option_copied};
 ghost use Rattle.prop_bindings.specs.Plans.{WillBe};
 
 use crate::plans::changed_places::ChangedPlaces;
-use crate::plans::given::value_given;
+use crate::plans::given::{value_given, value_near};
 use basic_types::Value;
 use binding_graph::{Place, Reader};
 use indexmap::IndexMap;
@@ -51,6 +51,14 @@ impl Planned {
         ensures { WillBe self.now place.now (option_copied result) }
     {
         value_given(&self.values, place)
+    }
+
+    /// The same, which likely stands at this place among the values that properties will have: those that are written or
+    /// bound come first, then mostly the others in the order in which they are notified.
+    pub fn value_near(&self, likely: usize, place: &Place) -> Option<&Value>
+        ensures { WillBe self.now place.now (option_copied result) }
+    {
+        value_near(&self.values, likely, place)
     }
 }
 

@@ -65,11 +65,15 @@ impl<'w> Scope<'w> {
         }
     }
 
-    /// The value of an expression; `BadType` where it has none.
+    /// The value of an expression; `BadType` where it has none. Most are a path alone, which is followed at once.
+    #[inline(always)]
     pub fn value_of(&self, expression: &Expr<MetaPath>) -> Result<Value, EvalFault>
         ensures { Evaluates (value_in self.now expression.now) result }
     {
-        expressions::eval(self.alloc, expression, self)
+        match expression {
+            Expr::Path(path) => expressions::World::value(self, path),
+            _ => expressions::eval(self.alloc, expression, self),
+        }
     }
 
     /// The values of expressions; `BadType` where one of them has none.
@@ -80,6 +84,7 @@ impl<'w> Scope<'w> {
     }
 
     /// The object that a path leads to, or `None` where it leads to null; `BadType` where it leads to neither.
+    #[inline(always)]
     pub fn object_at(&self, path: &MetaPath) -> Result<Option<ObjectId>, EvalFault>
         ensures { Finds (path_in self.now path.now) result }
     {
