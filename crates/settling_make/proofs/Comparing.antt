@@ -1,12 +1,12 @@
 -- What a valid certificate has whose sets are those that are made: its ranks and steps fit them.
-use Rattle.std.{proofs.Common.{◌≡◌, ◌≢◌, ◌⊎◌, inl, inr, ℕ, zero, suc, ◌+◌, ◌-◌, ◌*◌, ◌<◌, ◌≤◌, List, [], ◌∷◌, length, get_or, slice_get, Option, Some, None, refl, sym, ap, ◌∙◌, subst, arith}, specs.List.{Contains}, proofs.Math.Nat.{add-mul, mul-le-mul_left, mul-le-mul_right}, proofs.lemmas.Bool.{cases_eq, cases_lt}, proofs.lemmas.List.Elements.{Contains-get_or}, proofs.lemmas.Option.{same_Some, none-some}}
+use Rattle.std.{proofs.Common.{◌≡◌, ◌≢◌, ◌⊎◌, inl, inr, ℕ, zero, suc, ◌+◌, ◌-◌, ◌*◌, ◌<◌, ◌≤◌, List, [], ◌∷◌, length, get_or, slice_get, Option, Some, None, refl, sym, ap, ◌∙◌, subst, arith}, proofs.Math.Nat.{add-mul, mul-le-mul_left, mul-le-mul_right}, proofs.lemmas.Bool.{cases_eq, cases_lt}, proofs.lemmas.List.Elements.{Contains-get_or}, proofs.lemmas.Option.{same_Some, none-some}}
 use Rattle.meta_model.specs.{Loaded.{Loaded}, Sound.{IsSound}}
 use Rattle.effect_scan.specs.{declared.node.Node.{Node}, declared.node.Member.TheVariants.{Property}, Nodes.{node, nodes_of, IsAt}, Rows.{row, Edge}, Edges.{MayLead}, Laws.{EdgesJoinNodes}, Scans.{Scanned}}
 use Rattle.rank_graph.{specs.Walks.{LeadsBy}, proofs.Driving.{edge_inside}}
 use Rattle.rank_check.{specs.Entries.{place_at}, proofs.Conditions.{edges_inside}, proofs.Elements.{some_inside, element_at}}
 use Rattle.rank_make.proofs.Placed.{one_number, one_at}
 use Rattle.settling.specs.{declared.certificate.SettlingLine.{SettlingLine}, declared.certificate.SettlingSet.{SettlingSet}, declared.certificate.SettlingCertificate.{SettlingCertificate}, Sets.{IsMember, IsIn, AreTogether}, Valid.{IsLineOf, IsRound, IsValid}}
-use Rattle.settling_make.{specs.declared.components.Components.{Components}, specs.declared.margin.Margin.{Margin}, specs.declared.sets.Sets.{Sets}, specs.Collected.{LeadsOut, AreCollected}, specs.Components.{number_of}, specs.Fits.{no_margin, margin_of, at_place, FitRanks, FitSteps, AreLeastSteps, SilentEdge}, specs.Least.{LeadsOn, HasCircles}, specs.Makes.{AreParts}, specs.Margins.{Asks, IsMarginOf}, proofs.Barred.{one_line}, proofs.Chaining.{heights_inside, asked}, proofs.Circling.{edge_from, walk_between, walk_numbers, number_falls}, proofs.Validating.{stands, in_set}, proofs.Placing.{node_low, set_at, place_is, set_of, leads_inside}}
+use Rattle.settling_make.{specs.declared.components.Components.{Components}, specs.declared.margin.Margin.{Margin}, specs.declared.sets.Sets.{Sets}, specs.Collected.{LeadsOut, AreCollected}, specs.Components.{number_of}, specs.Fits.{no_margin, margin_of, at_place, FitRanks, FitSteps, AreLeastSteps, SilentEdge}, specs.Least.{LeadsOn, HasCircles}, specs.Makes.{AreParts}, specs.Margins.{Asks, IsMarginOf}, proofs.Barred.{one_line}, proofs.Chaining.{heights_inside, asked}, proofs.Circling.{edge_from, walk_between, walk_numbers, number_falls}, proofs.Placing.{node_low, set_at, place_is, set_of, leads_inside}}
 
 right_some : (a b : ℕ) → 0 < a * b → 0 < b
 right_some zero b pos = absurd (omega (arith, pos))

@@ -1,3 +1,4 @@
+pub mod Acyclic
 pub mod Asking
 pub mod Barred
 pub mod Chaining

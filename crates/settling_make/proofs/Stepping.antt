@@ -4,7 +4,7 @@ use Rattle.std.proofs.lemmas.Bool.{cases_eq, cases_lt}
 use Rattle.std.proofs.lemmas.List.{take_all, length_push, get_or_append_left, get_or_push, get_or_past, get_or_default}
 use Rattle.effect_scan.specs.Rows.{row, Edge}
 use Rattle.rank_graph.proofs.Driving.{edge_inside}
-use Rattle.settling.specs.code.Spans.{greatest}
+use Rattle.token_reading.specs.Literals.{greatest}
 use Rattle.settling_make.specs.declared.margin.Margin.{Margin}
 use Rattle.settling_make.specs.Fits.{no_margin, margin_of, at_place, FitSteps, AreLeastSteps, StepsAreHigh}
 use Rattle.settling_make.specs.Ranking.{IsHighest}

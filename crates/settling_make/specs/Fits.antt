@@ -3,7 +3,7 @@ use Rattle.std.specs.Prelude.{◌≡◌, ◌≢◌, ◌⊎◌, ◌<◌, ◌≤�
 use Rattle.effect_scan.specs.declared.node.Node.{Node}
 use Rattle.effect_scan.specs.Rows.{Edge}
 use Rattle.rank_check.specs.Valid.{most_bound}
-use Rattle.settling.specs.code.Spans.{greatest}
+use Rattle.token_reading.specs.Literals.{greatest}
 use Rattle.settling_make.specs.declared.margin.Margin.{Margin}
 use Rattle.settling_make.specs.Components.{number_of}
 use Rattle.settling_make.specs.Inside.{IsSilentEnd}
@@ -19,6 +19,11 @@ margin_of margins k = slice_index_or margins k no_margin
 -- the number at this place
 abbrev pub at_place : List ℕ → ℕ → ℕ
 at_place numbers a = slice_index_or numbers a 0
+
+-- the ranks of so many nodes, by their numbers
+pub record AreRanksAt (rank : ℕ → ℕ) (count : ℕ) (ranks : List ℕ) : Type 0 where
+  pub counted : length ranks ≡ count
+  pub each : (a : ℕ) → a < count → at_place ranks a ≡ rank a
 
 -- ---- ranks
 -- along an edge from node a to node b the rank has to fall: it leaves a component, or leads to no property
@@ -54,13 +59,13 @@ pub record FitSteps (outer : List (List ℕ)) (margins : List Margin) (step : �
   pub leaves : (k j : ℕ) → Edge outer k j → step j + (margin_of margins k).cost ≤ step k
   pub enough : (k : ℕ) → k < length margins → (margin_of margins k).cost ≤ step k
 
--- steps that fit, of 32 bits, and no others that fit have a lower one
+-- steps that fit, which a text can hold, and no others that fit have a lower one
 pub record AreLeastSteps (outer : List (List ℕ)) (margins : List Margin) (steps : List ℕ) : Type 0 where
   pub count : length steps ≡ length margins
   pub fit : FitSteps outer margins (at_place steps)
   pub low : (k : ℕ) → at_place steps k ≤ greatest
   pub least : (other : ℕ → ℕ) → FitSteps outer margins other → (k : ℕ) → k < length margins → at_place steps k ≤ other k
 
--- among steps that fit is one that 32 bits don't hold
+-- among steps that fit is one that no text can hold
 abbrev pub StepsAreHigh : List (List ℕ) → List Margin → Type 0
 StepsAreHigh outer margins = (other : ℕ → ℕ) → FitSteps outer margins other → (k : ℕ) × (k < length margins) × (greatest < other k)

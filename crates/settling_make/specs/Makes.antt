@@ -53,6 +53,12 @@ pub record IsMade (p : Loaded) (certificate : SettlingCertificate) : Type 0 wher
   pub leads : ℕ → ℕ → Bool
   pub of : IsMadeOf p scan found height sets margins leads certificate
 
+-- it is made, no circle stands against it, and nothing may destroy its own object
+pub record IsMadeAlone (p : Loaded) (certificate : SettlingCertificate) : Type 0 where
+  pub made : IsMade p certificate
+  pub settle : EdgesSettle p
+  pub spared : NoneEnds p
+
 -- ---- reasons
 -- from the node a chain leads along circles that has as many edges as the greatest bound, none of them into a property
 abbrev pub IsLong : Loaded → Node → Type 0
@@ -68,7 +74,7 @@ pub record RanksAreTooHigh (p : Loaded) : Type 0 where
   pub parts : AreParts p scan found height made margins
   pub high : RanksAreHigh scan.nodes scan.rows found.numbers margins
 
--- all steps that fit them have one of more than 32 bits
+-- all steps that fit them have one that no text can hold
 pub record StepsAreTooHigh (p : Loaded) : Type 0 where
   pub scan : Scanned
   pub found : Components

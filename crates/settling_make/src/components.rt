@@ -34,10 +34,17 @@ impl Components {
     pub fn number(&self, node: usize) -> usize
         ensures { result ≡ number_of self.now.numbers node }
     {
-        match at(self.numbers.as_slice(), node) {
-            Some(number) => *number,
-            None => 0,
-        }
+        number_at(self.numbers.as_slice(), node)
+    }
+}
+
+/// The number of the node among these; 0 past the last node.
+pub fn number_at(numbers: &[usize], node: usize) -> usize
+    ensures { result ≡ number_of numbers.now node }
+{
+    match at(numbers, node) {
+        Some(number) => *number,
+        None => 0,
     }
 }
 

@@ -20,6 +20,7 @@ mod sets;
 mod steps;
 mod unsettled;
 mod why;
+mod without_steps;
 
 pub use circles::Circle;
 pub use components::{Components, components_of};

@@ -2,8 +2,10 @@
 
 ghost use Rattle.std.specs.Prelude.{◌≡◌, ◌<◌, ℕ, length};
 ghost use Rattle.effect_scan.specs.Scans.{IsScan};
+ghost use Rattle.rank_check.specs.Entries.{IsReady};
 ghost use Rattle.rank_graph.specs.Solutions.{rank_of, leads_of};
 ghost use Rattle.settling_make.specs.Circles.{AreDestroyed};
+ghost use Rattle.settling_make.specs.Collected.{LeadsOut, AreCollected};
 ghost use Rattle.settling_make.specs.Components.{AreComponents};
 ghost use Rattle.settling_make.specs.Flat.{MakesFlat};
 ghost use Rattle.settling_make.specs.Least.{MakesLeast};
@@ -22,7 +24,8 @@ use crate::sets::sets_of;
 use crate::steps::steps_of;
 use crate::unsettled::first_unsettled;
 use crate::why::Why;
-use effect_scan::{Scan, edges_join_nodes};
+use crate::without_steps::flat_certificate;
+use effect_scan::{Scan, Targets, edges_join_nodes};
 use meta_model::Meta;
 use rank_check::{unfit_wire, untyped};
 use rank_graph::Solution;
@@ -34,8 +37,8 @@ use std::alloc::Global;
 /// that have an edge inside, each with the least round; with these the steps are the least, and so are the ranks; the bound is
 /// just above the ranks, and the step the greatest. Its lines are those of the nodes in their order. Where the error isn't `TooHigh`,
 /// `TooSteep` or `Memory`, no settling certificate is valid; `Memory` comes only where a growth of memory was refused. A program with a
-/// certificate without steps has the step 0 here, and no greater bound. Beside the scan, and what `hand_on` takes along edges within
-/// components, time is that of a certificate without steps.
+/// certificate without steps has the step 0 here, and no greater bound, in the time of that one. Of any other one, beside the scan and
+/// what `hand_on` takes along edges within components, time is linear in the nodes and edges, in the same measure.
 pub fn make(alloc: Global, meta: &Meta) -> Result<SettlingCertificate, Why>
     ensures makes { Makes meta.now result }
     ensures flat { MakesFlat meta.now result }
@@ -57,10 +60,35 @@ fn make_judged(alloc: Global, meta: &Meta) -> Result<SettlingCertificate, Why>
     edges_join_nodes(meta);
     let _classes = meta.classes();
     let scan = Scan::of(alloc, meta)?;
+    let flat = flat_certificate(alloc, meta, &scan)?;
+    match flat {
+        Some(certificate) => Ok(certificate),
+        None => make_scanned(alloc, meta, &scan),
+    }
+}
+
+/// The same of a program with this scan, by the components of its edges.
+fn make_scanned(alloc: Global, meta: &Meta, scan: &Scan) -> Result<SettlingCertificate, Why>
+    requires scan { IsScan meta.now scan.now }
+    requires ready { IsReady meta.now }
+    ensures { Makes meta.now result }
+{
+    // All edges are between nodes, and names are those of one member.
+    edges_join_nodes(meta);
+    let _classes = meta.classes();
     let found = components_of(alloc, scan.rows())?;
-    let heights = settled(alloc, meta, &scan, &found)?;
-    let ended = spared(alloc, meta, &scan, &found)?;
-    make_parts(alloc, meta, &scan, &found, &heights, &ended)
+    let heights = settled(alloc, meta, scan, &found)?;
+    let outer = outer_rows(alloc, scan, &found)?;
+    let ended = spared(alloc, meta, scan, &found, outer.as_slice())?;
+    make_parts(
+        alloc,
+        meta,
+        scan,
+        &found,
+        &heights,
+        outer.as_slice(),
+        &ended,
+    )
 }
 
 /// The reasons that the program's wires, literals, bodies and bindings give.
@@ -97,14 +125,21 @@ fn settled(alloc: Global, meta: &Meta, scan: &Scan, found: &Components) -> Resul
 }
 
 /// What may be destroyed from the components, or the reason that one gives.
-fn spared(alloc: Global, meta: &Meta, scan: &Scan, found: &Components) -> Result<Solution, Why>
+fn spared(
+    alloc: Global,
+    meta: &Meta,
+    scan: &Scan,
+    found: &Components,
+    outer: &[Targets],
+) -> Result<Solution, Why>
     requires scan { IsScan meta.now scan.now }
     requires found { AreComponents scan.now.rows found.now }
+    requires outer { AreCollected (LeadsOut scan.now.rows found.now.numbers) found.now.sets outer.now }
     ensures { SparedOrReason meta.now found.now.numbers result }
 {
     none_is_valid(meta);
-    let ended = destroyed(alloc, meta, scan, found)?;
-    match first_ending(meta, scan, found, &ended) {
+    let ended = destroyed(alloc, meta, scan, found, outer)?;
+    match first_ending(meta, scan, found.numbers.as_slice(), &ended) {
         Some(node) => Err(Why::Ending(node)),
         None => Ok(ended),
     }
@@ -117,10 +152,12 @@ fn make_parts(
     scan: &Scan,
     found: &Components,
     heights: &Solution,
+    outer: &[Targets],
     ended: &Solution,
 ) -> Result<SettlingCertificate, Why>
     requires scan { IsScan meta.now scan.now }
     requires found { AreComponents scan.now.rows found.now }
+    requires outer { AreCollected (LeadsOut scan.now.rows found.now.numbers) found.now.sets outer.now }
     requires heights { AreSettled meta.now heights.now }
     requires ended { AreDestroyed meta.now found.now.numbers (leads_of ended.now) }
     ensures { MadeOrReason meta.now result }
@@ -134,8 +171,7 @@ fn make_parts(
     let Some(ranks) = ranks_of(alloc, scan, found, heights, margins.as_slice())? else {
         return Err(Why::TooHigh);
     };
-    let outer = outer_rows(alloc, scan, found)?;
-    let Some(steps) = steps_of(alloc, outer.as_slice(), margins.as_slice())? else {
+    let Some(steps) = steps_of(alloc, outer, margins.as_slice())? else {
         return Err(Why::TooSteep);
     };
     let bound = just_above(ranks.as_slice());
@@ -144,7 +180,7 @@ fn make_parts(
         alloc,
         meta,
         scan,
-        found,
+        found.numbers.as_slice(),
         ended,
         ranks.as_slice(),
         steps.as_slice(),

@@ -1,8 +1,8 @@
 //! The least steps of components.
 
-ghost use Rattle.std.specs.Prelude.{◌≡◌, ◌<◌, ◌+◌, ℕ, length, IfOk, MatchOption};
+ghost use Rattle.std.specs.Prelude.{◌≡◌, ◌<◌, ◌≤◌, ◌+◌, ℕ, length, IfOk, MatchOption};
 ghost use Rattle.effect_scan.specs.Rows.{Edge};
-ghost use Rattle.settling.specs.code.Spans.{greatest};
+ghost use Rattle.token_reading.specs.Literals.{greatest};
 ghost use Rattle.settling_make.specs.Fits.{AreLeastSteps, StepsAreHigh};
 
 use crate::highest::highest_of;
@@ -10,9 +10,10 @@ use crate::margin::Margin;
 use effect_scan::{Targets, targets_at};
 use sqlite_items::Items;
 use std::alloc::{AllocError, Global};
+use token_reading::GREATEST;
 
-/// The least steps of components, each of which leads to some before it; `None` where 32 bits don't hold one. Takes time linear in the
-/// edges between components. The error is that memory was refused.
+/// The least steps of components, each of which leads to some before it; `None` where one is greater than a number of a certificate's
+/// text may be. Takes time linear in the edges between components. The error is that memory was refused.
 pub fn steps_of(
     alloc: Global,
     outer: &[Targets],
@@ -35,13 +36,16 @@ pub fn steps_of(
     Ok(Some(steps))
 }
 
-/// The step with so much more, or `None` where 32 bits don't hold it.
+/// The step with so much more, or `None` where a text can't hold it.
 fn raised(step: u32, cost: u128) -> Option<u32>
-    ensures { MatchOption result (greatest < step + cost) (λ higher. higher ≡ step + cost) }
+    ensures { MatchOption result (greatest < step + cost) (λ higher. (higher ≡ step + cost) × (higher ≤ greatest)) }
 {
-    let room = u32::MAX - step;
-    if cost <= room as u128 {
-        Some(step + cost as u32)
+    if cost > GREATEST as u128 {
+        return None;
+    }
+    let higher = step as u64 + cost as u64;
+    if higher <= GREATEST as u64 {
+        Some(higher as u32)
     } else {
         None
     }

@@ -27,8 +27,8 @@ pub enum Why {
     /// With the sets that would be made, a rank isn't below the greatest bound.
     #[error("a rank isn't below the greatest bound")]
     TooHigh,
-    /// With the sets that would be made, 32 bits don't hold a step.
-    #[error("a step is greater than 32 bits hold")]
+    /// With the sets that would be made, a step is greater than a number of a certificate's text may be.
+    #[error("a step is greater than a certificate may hold")]
     TooSteep,
     /// A growth of memory was refused.
     #[error("out of memory")]

@@ -1,5 +1,4 @@
 use Rattle.std.proofs.Common.{ℕ, get_or, inl, inr, subst, sym}
-use Rattle.std.specs.List.{Contains}
 use Rattle.std.proofs.lemmas.List.Elements.{Contains-get_or}
 use Rattle.effect_scan.specs.Rows.{Edge}
 use Rattle.settling_make.proofs.Taking.{one_of, none_taken, all_taken}

@@ -25,7 +25,7 @@ pub loop-component-preserved : goal.loop-component-preserved
 loop-component-preserved c =
     let is : IsHighest c.loop-component.steps (row c.args.outer.now c.loop-component.component) c.highest_of-highest.result = rw (c.as_slice.ensures, c.targets_at.ensures) at c.highest_of-highest.ensures in
     steps_more c.args.outer.now c.args.margins.now c.requires.falls c.loop-component.component c.loop-component-test.true c.loop-component.steps c.loop-component.invariant c.highest_of-highest.result is
-    c.in-Some.step _ c.in-Some.ensures (omega arith) _ c.in_ok-push-in-Some.ensures.ok
+    c.in-Some.step _ c.in-Some.ensures.0 c.in-Some.ensures.1 _ c.in_ok-push-in-Some.ensures.ok
 
 pub returns : goal.returns
 returns c = steps_all c.args.outer.now c.args.margins.now c.requires.falls c.loop-component.component c.loop-component.steps c.requires.count c.loop-component-test.false (omega arith) c.loop-component.invariant

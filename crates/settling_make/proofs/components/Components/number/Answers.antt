@@ -1,8 +1,4 @@
-use Rattle.settling_make.proofs.Driving.{number_here, number_past}
 use Rattle.settling_make.proofs.components.Components.number.Goals as goal
 
-pub returns-in-Some : goal.returns-in-Some
-returns-in-Some c = number_here _ _ _ _ c.as_slice.ensures c.in-Some.ensures
-
-pub returns-in-None : goal.returns-in-None
-returns-in-None c = number_past _ _ _ c.as_slice.ensures c.in-None.ensures
+pub returns : goal.returns
+returns c = rw c.as_slice.ensures at c.number_at.ensures
