@@ -46,11 +46,11 @@ class Command:
 
 
 STEPS = Option("--steps", "the most rules that a run carries out, 1,000,000 without it", "M", MOST_STEPS)
-UNCHECKED = Option("--unchecked", "needs no certificate; at most N activations nest, from 1 to 256", "N", MOST_NESTED)
+UNCHECKED = Option("--unchecked", "needs no certificate; at most N activations nest, from 1 to 256", "N", MOST_NESTED, group="certificate")
 STRICT = Option("--strict", "the exit status is 3 where an event is refused that no comment in its line expects")
 RECORD = Option("--record", "writes what came of each event into the script, as comments", group="form")
 WIDE = Option("--wide", "takes a program as large as one that a tool writes: 8,192 classes, 16,384 wires, 32 MiB", first=True)
-SETTLING = Option("--settling", "with a settling certificate: circles may come to rest")
+SETTLING = Option("--settling", "with a settling certificate: circles may come to rest", group="certificate")
 PLACES = Option("--places", "tells places by this file, and without it by NAME.places beside NAME.gf", "FILE", text="places")
 CONTEXT = Option("--context", "with N lines of the file around each place", "N", MOST_CONTEXT, group="form", here=True)
 WITNESS = Option("--witness", "writes scripts that show cycles and paths, and tells which are shown", here=True)
@@ -72,10 +72,10 @@ COMMANDS = [
             texts=("program",), statuses=((0, "a certificate is written"), USAGE, REFUSED, (3, "the program has no certificate")), page="docs/commands.md"),
     Command("check", PROGRAM, "whether a certificate is valid: `yes`, or `no` and a number", "check app.gf app.gfc", (WIDE, SETTLING, PLACES),
             texts=("program", "certificate"), statuses=((0, "it is valid"), USAGE, REFUSED, INVALID), page="docs/certificate.md"),
-    Command("run", PROGRAM, "checks, then runs a script: the trace of each event", "run app.gf app.gfc session.gfs", (WIDE, STRICT, UNCHECKED, STEPS),
+    Command("run", PROGRAM, "checks, then runs a script: the trace of each event", "run app.gf app.gfc session.gfs", (WIDE, STRICT, SETTLING, UNCHECKED, STEPS),
             ("program", "certificate", "script"), statuses=((0, "the run took all events"), USAGE, REFUSED, (3, "the certificate isn't valid, or with `--strict` an event was refused unexpectedly"), (4, "a fault stopped the run")), page="docs/commands.md"),
     Command("session", TOOLS, "runs a script as a test of what its comments expect", "session app.gf app.gfc session.gfs",
-            (WIDE, Option("--tap", "writes the outcomes as TAP", group="form"), RECORD, UNCHECKED, STEPS), ("program", "certificate", "script"), many=True,
+            (WIDE, Option("--tap", "writes the outcomes as TAP", group="form"), RECORD, SETTLING, UNCHECKED, STEPS), ("program", "certificate", "script"), many=True,
             statuses=((0, "each event went as expected"), USAGE, REFUSED, INVALID, (5, "events went otherwise")), page="docs/session.md",
             more="There may be several scripts: what is told of one names it, and the exit status is the worst.\n"),
     Command("verdict", TOOLS, "all findings at once, with their places", "verdict app.gf",
@@ -136,12 +136,6 @@ class Excluded(Fault):
     status = 2
 
 
-class NotYet(Fault):
-    """An option that a command doesn't take yet, in a sentence."""
-
-    status = 2
-
-
 class Call:
     """A command line that was taken apart: the command, the program's own words, and the files with the texts that they hold."""
 
@@ -169,8 +163,6 @@ def parse(words: list[str]) -> Call:
     while rest and rest[0].startswith("-") and rest[0] != "-":
         name = rest.pop(0)
         option = command.option(name)
-        if not option and name == SETTLING.name and command.word in ("run", "session"):
-            raise NotYet(f"`{command.word}` takes no settling certificate yet: that runs keep to one isn't proved")
         if not option:
             raise NoCommand
         take(call, option, rest)

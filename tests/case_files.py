@@ -30,7 +30,7 @@ class Case:
         return b"".join(found) if found else None
 
     def input(self, words, certify):
-        """What the command line gets. `certify` gives the certificate of a program."""
+        """What the command line gets. `certify` gives the certificate of a program by the words that ask for it."""
         whole = self.text("input")
         if whole is not None:
             return whole
@@ -38,7 +38,7 @@ class Case:
         for name in texts_of(words) or ["program", "certificate", "script"]:
             text = self.text(name)
             if text is None and name == "certificate" and texts_of(words):
-                text = certify(self.text("program"))
+                text = certify(certifies(words), self.text("program"))
             if text is not None:
                 parts.append(text)
         return joined(parts)
@@ -47,6 +47,11 @@ class Case:
 def narrow(words):
     """The words of a command, without `--wide` in front."""
     return words[1:] if words[:1] == ["--wide"] else words
+
+
+def certifies(words):
+    """The words that give the certificate which these words take."""
+    return ["certify", "--settling"] if "--settling" in words else ["certify"]
 
 
 def texts_of(words):
@@ -116,7 +121,7 @@ def topics():
 
 
 def runs(certify):
-    """Each run of each case. `certify` gives the certificate of a program."""
+    """Each run of each case. `certify` gives the certificate of a program by the words that ask for it."""
     for topic in topics():
         for place, case in enumerate(cases_of(f"{FOLDER}/{topic}.cases")):
             for words in case.words:

@@ -64,7 +64,7 @@ LOADING = re.compile(rb"refused 1[0-5]\n")
 FITTING = re.compile(rb"refused 1[78]\n")
 NOT_VALID = re.compile(rb"no 7[0-6]\n")
 # The faults of a run without a certificate, and of one with: memory is ample here, so it isn't among them.
-FAULTS, CHECKED_FAULTS = re.compile(rb"fault 6[0-4]\n"), re.compile(rb"fault 64\n")
+FAULTS, CHECKED_FAULTS, SETTLING_FAULTS = re.compile(rb"fault 6[0-4]\n"), re.compile(rb"fault 64\n"), re.compile(rb"fault 6[14]\n")
 MOST_DEPTH, MOST_STEPS = 256, 9223372036854775807
 
 
@@ -77,7 +77,9 @@ def is_command(words):
     if words[:1] != ["run"]:
         return words in (["meta"], ["certify"], ["check"], ["certify", "--settling"], ["check", "--settling"])
     options = words[1:]
-    if options[:1] == ["--unchecked"]:
+    if options[:1] == ["--settling"]:
+        options = options[1:]
+    elif options[:1] == ["--unchecked"]:
         if len(options) < 2 or not is_number(options[1], MOST_DEPTH):
             return False
         options = options[2:]
@@ -142,7 +144,7 @@ class Wanted:
         errors = built.behind_refused(answer.errors) if self.words[0] == "run" else answer.errors
         if self.words == ["meta"] or "--unchecked" in self.words or sum(map(len, self.parts)) > LARGEST_TOLD:
             return "nothing was judged, and something is told" if errors else None
-        if self.is_settling:
+        if self.is_settling and self.words[0] != "run":
             return None if BESIDE_SETTLING.fullmatch(errors) else "this isn't what is told beside a yes"
         told = built.BESIDE_YES.fullmatch(errors)
         if not told or (told[1] is None) != (self.words[0] == "run"):
@@ -182,7 +184,8 @@ class Wanted:
         if answer.status == 4:
             front, _, last = trace[:-1].rpartition(b"\n")
             trace, fault = front + b"\n" if front else b"", last + b"\n"
-            if not (CHECKED_FAULTS if is_checked else FAULTS).fullmatch(fault):
+            faults = SETTLING_FAULTS if self.is_settling else CHECKED_FAULTS if is_checked else FAULTS
+            if not faults.fullmatch(fault):
                 return "this is no fault of such a run"
         if answer.status not in (0, 4) or not ENTRIES.fullmatch(trace):
             return "this is no trace"
@@ -198,7 +201,13 @@ class Wanted:
         return None if max(depths, default=0) <= self.depth() else "activations nest too deep"
 
     def depth(self):
+        """How many activations may nest: with a settling certificate its bound, and its step for each object that the script makes
+        at most."""
         if self.words[1:2] == ["--unchecked"]:
             return grammar.number_of(self.words[2].encode())
+        if self.is_settling:
+            found = re.search(rb"^[ \t\r]*bound\s+([0-9]+)\s+([0-9]+)", self.parts[1], re.M)
+            bound, step = map(grammar.number_of, found.groups()) if found else (MOST_DEPTH, 0)
+            return min(MOST_DEPTH, bound + step * len(re.findall(rb"^\s*new\b", self.parts[2], re.M)))
         found = re.search(rb"^[ \t\r]*bound\s+0*([0-9]+)", self.parts[1], re.M)
         return grammar.number_of(found[1]) if found else MOST_DEPTH

@@ -36,11 +36,11 @@ PIECE = 50
 # A changed row of more bytes tells no more.
 LARGEST_ROW = 20000
 NAMES = ["program", "certificate", "script"]
-COMMANDS = [["meta"], ["certify"], ["check"], ["run"], ["run", "--unchecked", "256"]]
+COMMANDS = [["meta"], ["certify"], ["check"], ["run"], ["run", "--settling"], ["run", "--unchecked", "256"]]
 # A run takes at most so many rules here.
 STEPS = ["--steps", "3000"]
 ODD_WORDS = (
-    "meta certify check run --unchecked --steps 0 1 007 256 257 1000000 9223372036854775807 9223372036854775808 -1 +5 1.0 "
+    "meta certify check run --settling --unchecked --steps 0 1 007 256 257 1000000 9223372036854775807 9223372036854775808 -1 +5 1.0 "
     "Meta -- --help --steps=5 99999999999999999999999"
 ).split() + ["", " ", "run ", "\u00e9", "\u0661", "\udcff", "0" * 5000 + "1", "a" * 20000]
 
@@ -63,7 +63,7 @@ class Attack:
     def rows(self):
         """The worked rows: words and an input."""
         if self.cache is None:
-            certify = lambda text: self.bench.run(self.programs[0], ["certify"], text).output
+            certify = lambda words, text: self.bench.run(self.programs[0], words, text).output
             found = [(words, text) for _, words, text, _, _ in built.examples()]
             found += [(it.words, it.text) for it in case_files.runs(certify)]
             self.cache = [it for it in found if len(it[1]) <= LARGEST_ROW]
@@ -124,24 +124,30 @@ class Attack:
                 count.check(other == answer, lambda: f"{words}, input {built.shown(text)}: {answer}, and explained: {other}")
 
     def certified(self, number, rng, count):
-        """What `certify` gives is valid, and the run with it goes as the one without, whose depth is the bound."""
+        """What `certify` gives is valid, and the run with it goes as the one without, whose depth is the bound; so it is with a
+        settling certificate, where the depth is the greatest."""
         rows = [text for words, text in self.rows() if words[:2] == ["run", "--unchecked"]]
         for _ in range(PIECE):
             program, script = (built.texts(rng.choice(rows)) + [b""])[:2]
             program = texts.changed(rng, program, [rng.choice(rows)])
             if b"\n%%\n" in b"\n" + program + b"\n":
                 continue
-            made = self.try_one(["certify"], program, count)
-            if made.status:
-                continue
-            both = case_files.joined([program, made.output])
-            valid = self.try_one(["check"], both, count)
-            count.check(valid.output == b"yes\n", lambda: f"its own certificate isn't valid: {built.shown(both)}: {valid}")
-            ran = self.try_one(["run"] + STEPS, case_files.joined([program, made.output, script]), count)
-            bound = made.output.split()[3].decode()
-            other = self.try_one(["run", "--unchecked", bound] + STEPS, case_files.joined([program, script]), count)
-            given = f"program {built.shown(program)}, script {built.shown(script)}"
-            count.check(ran == other, lambda: f"{given}: {ran}, unchecked {other}")
+            for settling in [], ["--settling"]:
+                self.certified_run(settling, program, script, count)
+
+    def certified_run(self, settling, program, script, count):
+        """What is made for the program is valid, and the run with it goes as the one without."""
+        made = self.try_one(["certify", *settling], program, count)
+        if made.status:
+            return
+        both = case_files.joined([program, made.output])
+        valid = self.try_one(["check", *settling], both, count)
+        count.check(valid.output == b"yes\n", lambda: f"its own certificate isn't valid: {built.shown(both)}: {valid}")
+        ran = self.try_one(["run", *settling] + STEPS, case_files.joined([program, made.output, script]), count)
+        bound = str(answers.MOST_DEPTH) if settling else made.output.split()[3].decode()
+        other = self.try_one(["run", "--unchecked", bound] + STEPS, case_files.joined([program, script]), count)
+        given = f"{settling} program {built.shown(program)}, script {built.shown(script)}"
+        count.check(ran == other, lambda: f"{given}: {ran}, unchecked {other}")
 
     # ---- moves
 

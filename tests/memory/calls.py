@@ -34,7 +34,7 @@ NOTING = set(b"move_tree".split())
 # The scripts of its runs.
 SCRIPT = b"new s Source\nnew l Label\nconnect s valueChanged(int) l show(int) auto\ncall s.setValue(7)\n"
 COUNTING = b"new a Counter\nnew b Counter\nconnect\nconnect\nset a.value 5\n"
-SCRIPTS = {b"apply": SCRIPT, b"run": SCRIPT, b"command": SCRIPT, b"run_unchecked": COUNTING}
+SCRIPTS = {b"apply": SCRIPT, b"run": SCRIPT, b"command": SCRIPT, b"run_settling": COUNTING, b"run_unchecked": COUNTING}
 # How an answer begins where there was no memory for what the call is made on, and for telling what it answered.
 UNMADE, UNTOLD = b"unmade\n", b"untold"
 # Of the requests that are made before the call so many are refused, spread over them.

@@ -57,7 +57,7 @@ class Row:
 
     def fronts(self):
         """What may stand in front of `fault 65`."""
-        if self.words[:1] != ["run"] or self.ample.status not in (0, 4):
+        if case_files.narrow(self.words)[:1] != ["run"] or self.ample.status not in (0, 4):
             return set()
         lines = self.ample.output.splitlines(keepends=True)
         return set(rule_ends(lines[:-1] if self.ample.status == 4 else lines, built.texts(self.text)[-1]))
@@ -188,8 +188,8 @@ def rows(program):
     """The rows, those of examples and then those that run scripts first. The program gives certificates."""
     bench = built.Bench()
     yield from example_rows()
-    runs = case_files.runs(lambda text: bench.run(program, ["certify"], text).output)
-    for run in sorted(runs, key=lambda run: run.words[:1] != ["run"]):
+    runs = case_files.runs(lambda words, text: bench.run(program, words, text).output)
+    for run in sorted(runs, key=lambda run: case_files.narrow(run.words)[:1] != ["run"]):
         is_whole = run.place < WHOLE_CASES.get(run.topic.split("/")[0], 0)
         yield Row(run.name, run.words, run.text, run.output, run.status, is_whole, run.environment)
 

@@ -61,7 +61,7 @@ def complete(place, count):
         count.check(holds, lambda: f"completion {shell}: {found}")
     place.write({"app one.gf": ""})
     for typed, wanted in (
-        (["ver"], ["verdict"]), (["run", "--s"], ["--strict", "--steps"]), (["import", "--"], ["--help", "--only", "--lean", "--strict", "--effects"]),
+        (["ver"], ["verdict"]), (["run", "--s"], ["--strict", "--settling", "--steps"]), (["import", "--"], ["--help", "--only", "--lean", "--strict", "--effects"]),
         (["verdict", "app"], ["app one.gf"]), (["help", "wit"], ["witness"]), (["completion", ""], ["bash", "zsh"]),
     ):  # fmt: skip
         line = " ".join(f"'{it}'" for it in ["gammonfig", *typed])
@@ -86,8 +86,9 @@ def told_rules(place, count):
 
 
 GOOD = "class Lamp {\n    property int level notify changed(int);\n    signal changed(int);\n    slot dim(int v) { set this.level = v; }\n}\n"
-CYCLE = GOOD + "wire Lamp changed(int) -> Lamp dim(int) direct;\n"
-WORSE = CYCLE.replace("set this.level = v;", "set this.level = v; call this.dim(v);")
+# It comes to rest, which isn't seen.
+CYCLE = GOOD.replace("= v;", "= 0 + v;") + "wire Lamp changed(int) -> Lamp dim(int) direct;\n"
+WORSE = CYCLE.replace("set this.level = 0 + v;", "set this.level = 0 + v; call this.dim(v);")
 
 
 def run_jobs(place, count):
@@ -155,7 +156,7 @@ def run_readme(place, count):
     shown = re.findall(r"^    ([.$]\S.*)$", text, re.M)
     count.check(shown[1:] == [".ci/run"] and ran, lambda: f"README.md has commands that nothing runs: {shown}")
     found = subprocess.run(["bash", "-c", shown[0]], cwd=built.ROOT, env=place.environment, capture_output=True, text=True, stdin=subprocess.DEVNULL)
-    count.check(found.returncode == 3 and found.stdout.startswith("examples/cycle.txt:14:1: error: "), lambda: f"README.md: {shown[0]}: {found}")
+    count.check(found.returncode == 0 and found.stdout.startswith("examples/cycle.txt:14:1: note: "), lambda: f"README.md: {shown[0]}: {found}")
 
 
 def run_language(place, count):

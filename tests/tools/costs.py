@@ -118,6 +118,25 @@ def largest():
     return "\n".join(classes + wires).encode()
 
 
+def joined_classes(count, is_chain):
+    """So many classes of 32 properties that notify and slots that set them, each below the one before where it is a chain; and a
+    thousand wires, `owns` and bindings, each to a later member than that it comes from."""
+    def member(number, at):
+        return f"{number}_{at}" if is_chain else str(at)
+
+    lines = []
+    for number in range(count):
+        members = [f"property int p{it} notify s{it}(int); signal s{it}(int); slot f{it}(int v) {{ set this.p{it} = v; }}" for it in (member(number, at) for at in range(32))]
+        lines.append(f"class C{number}{f' : C{number - 1}' if is_chain and number else ''} {{ {' '.join(members)} }}")
+    for it in range(1000):
+        first, second, at = it * 7 % count, it * 13 % count, it % 31
+        here, there = member(first, at), member(second, at + 1)
+        lines.append(f"wire C{first} s{here}(int) -> C{second} f{there}(int) direct;")
+        lines.append(f"owns C{second} C{first};")
+        lines.append(f"binding b{it} C{second}.p{there} (C{first} a) = a.p{here} + 1;")
+    return "\n".join(lines).encode()
+
+
 class Costs:
     """Tries the inputs on a program."""
 
@@ -205,14 +224,23 @@ class Costs:
 
     def largest_program(self):
         """A graph of 256 classes is judged in at most twice what `certify` takes."""
-        text = largest()
-        certified = [self.bench.run(self.beside(), ["certify"], text) for _ in range(3)]
-        found = [self.bench.run(self.program, ["verdict"], text) for _ in range(3)]
+        self.beside_certify("256 classes", self.program, ["verdict"], largest())
+
+    def settling(self):
+        """A program that has a certificate without steps gets a settling one in at most twice what `certify` takes."""
+        for name, count, is_chain in ("64 classes below one another", 64, True), ("256 classes, apart", 256, False):
+            self.beside_certify(name, self.beside(), ["certify", "--settling"], joined_classes(count, is_chain))
+
+    def beside_certify(self, name, program, words, text):
+        """Tries that the program with these words does what it is asked, in at most twice what `certify` takes: each by the least of
+        several runs, since other work on the machine makes some of them longer."""
+        certified = [self.bench.run(self.beside(), ["certify"], text) for _ in range(7)]
+        found = [self.bench.run(program, words, text) for _ in range(7)]
         least, taken = (min(it.seconds for it in runs) for runs in (certified, found))
-        self.measured.append(("256 classes, beside `certify`", ["verdict"], taken))
-        self.measured.append(("256 classes", ["certify"], least))
+        self.measured.append((f"{name}, beside `certify`", words, taken))
+        self.measured.append((name, ["certify"], least))
         holds = all(it.status == 0 for it in certified + found) and taken <= 2 * least
-        self.count.check(holds, lambda: f"256 classes: {taken:.2f} s, and certify {least:.2f} s: {found[0].output[-300:]}")
+        self.count.check(holds, lambda: f"{name}: {taken:.2f} s, and certify {least:.2f} s: {found[0].output[-300:]}")
 
 
 def try_all(bench, count, program):
@@ -221,6 +249,7 @@ def try_all(bench, count, program):
     costs.graphs()
     costs.imports()
     costs.verdicts()
+    costs.settling()
     costs.witnesses()
     return costs.measured
 

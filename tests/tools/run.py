@@ -123,7 +123,7 @@ def is_placed(it, text):
 
 
 def is_verdict(found, certified, text):
-    """Whether a verdict as JSON goes with what `certify` says of the program."""
+    """Whether a verdict as JSON goes with what `certify` says of the program, or where that names a cycle `certify --settling`."""
     try:
         told = json.loads(found.output)
         rules = {it["rule"] for it in told["findings"] if it["severity"] == "error"}
@@ -131,7 +131,8 @@ def is_verdict(found, certified, text):
         joined = all(first["to"] == second["from"] for it in told["findings"] if it["rule"] != "deletes-connected" for first, second in zip(it["chain"], it["chain"][1:]))
         placed = all(is_placed(it, text) for it in told["findings"] + [step for chain in chains for step in chain])
         reason = re.match(rb"no (\w+) ", certified.output)
-        return joined and placed and not schema.faults(told, SCHEMA) and bool(rules) == (found.status != 0) and (not reason or RULES[reason[1]] in rules)
+        settles = any(it["rule"] == "settling-cycle" for it in told["findings"]) == certified.output.startswith(b"settling 1\n")
+        return settles and joined and placed and not schema.faults(told, SCHEMA) and bool(rules) == (found.status != 0) and (not reason or RULES[reason[1]] in rules)
     except (ValueError, KeyError):
         return False
 
@@ -145,6 +146,9 @@ def judge(bench, count, program):
             given = changed_program(rng, source) if number else source
             found = bench.run(program, ["verdict", "--json"], given)
             certified = bench.run(built.BUILDS[0], ["certify"], given)
+            if certified.output.startswith(b"no cycle "):
+                settled = bench.run(built.BUILDS[0], ["certify", "--settling"], given)
+                certified = settled if settled.status == 0 else certified
             holds = found.status == certified.status and is_verdict(found, certified, given)
             count.check(holds, lambda: f"{given}: {found}, and certify: {certified}")
             if found.status == 3:

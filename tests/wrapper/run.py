@@ -21,6 +21,7 @@ sys.path[:0] = [f"{built.ROOT}/bin", f"{built.ROOT}/tests/tools"]
 import sarif
 import schema
 import several
+from kit import PROVED_WITH
 
 LAMP = """class Lamp {
     property int level notify changed(int);
@@ -29,7 +30,9 @@ LAMP = """class Lamp {
 }
 """
 LOOSE = LAMP.replace("(int v)", "(int v").replace("}\n", "}")
-CYCLE = LAMP + "wire Lamp changed(int) -> Lamp dim(int) direct;\n"
+WIRE = "wire Lamp changed(int) -> Lamp dim(int) direct;\n"
+# One that comes to rest, which isn't seen; and one of which it is.
+CYCLE, RESTS = LAMP.replace("= v;", "= 0 + v;") + WIRE, LAMP + WIRE
 SCRIPT = "new a Lamp\ncall a.dim(3)\n"
 TRACE = "event 1\nevent 2\n1 call a.dim(3)\n2 set a.level 3\n3 emit a.changed(3)\n"
 # Two circles, of which the second one comes to rest, and two slots that lead to the deletion of their own object: the second
@@ -77,7 +80,8 @@ class Tests:
                 "a b.gf": LOOSE,
                 "other.gfs": SCRIPT + "//= 1 call a.dim(4)\n",
                 "trace": TRACE,
-                "bumps.gf": CYCLE.replace("= v;", "= v + 1;"),
+                "bumps.gf": RESTS.replace("= v;", "= v + 1;"),
+                "rests.gf": RESTS,
                 "above.gfs": "//= event 1\n" + SCRIPT,
                 "idle.gf": LAMP + IDLE,
             }
@@ -103,6 +107,12 @@ class Tests:
         self.check(["run", "--unchecked", "9", "app.gf", "session.gfs"], 0, TRACE)
         self.check(["run", "--unchecked", "9", "app.gf", "open.gfs"], 0, TRACE)
         self.check(["run", "--unchecked", "2", "app.gf", "session.gfs"], 4, TRACE[:48] + "fault 61\n", "fault 61")
+        self.place.write({"settling.gfc": self.program(["certify", "--settling"], LAMP)})
+        self.check(["run", "--settling", "app.gf", "settling.gfc", "session.gfs"], 0, TRACE)
+        self.check(["session", "--settling", "app.gf", "settling.gfc", "session.gfs"], 0, "2 events, each as expected\n")
+        self.check(["run", "--settling", "app.gf", "app.gfc", "session.gfs"], 2, "refused 77\n", "refused 77: the certificate isn't in its grammar")
+        found = self.place.run(["run", "--settling", "--unchecked", "9", "app.gf", "session.gfs"])
+        self.count.check(found == (2, "", "gammonfig: `--settling` and `--unchecked` exclude one another: `run` takes one of them\n"), lambda: f"both: {found}")
         self.check(["run", "--steps", "1", "app.gf", "app.gfc", "session.gfs"], 4, TRACE[:8] + "fault 64\n", "session.gfs:2:1: error: fault 64 as event 2 was to be taken\n")
         self.check(["certify", "cycle.gf"], 3, self.program(["certify"], CYCLE), "no certificate")
 
@@ -129,8 +139,6 @@ class Tests:
             told = f"gammonfig: `{one}` and `{other}` exclude one another: `{word}` takes one of them\n"
             found = self.place.run([word, one, other, "app.gf"])
             self.count.check(found == (2, "", told), lambda: f"{word} {one} {other}: {found}")
-        for word in "run", "session":
-            self.check([word, "--settling", "app.gf", "app.gfc", "session.gfs"], 2, "", f"`{word}` takes no settling certificate yet")
         self.check(["check", "--settling", "app.gf", "app.gfc"], 2, "refused 77\n", "refused 77: the certificate isn't in its grammar")
         for words in (["--accept", "cycle.gf", "--baseline", "cycle.gf", "app.gf"], ["--context", "1", "--json", "app.gf"]):
             self.check(["verdict", *words], 2, "", f"`{words[0]}` and `{words[2]}` exclude one another")
@@ -300,6 +308,8 @@ class Tests:
         self.check(["verdict", "--baseline", "accepted.txt", "cycle.gf"], 0, "no findings, 3 accepted\n")
         self.check(["verdict", "--rules"], 0, self.program(["verdict", "--rules"], "", "qt_tools"))
         self.check(["verdict", "--off", "cycle", "cycle.gf"], 0, "no findings\n")
+        self.check(["verdict", "rests.gf"], 0, self.program(["verdict", "--program", "rests.gf"], RESTS, "qt_tools"))
+        self.check(["verdict", "--baseline", "accepted.txt", "rests.gf"], 0, "no findings\n", "accepts nothing")
         self.check(["verdict", "--warning", "none", "cycle.gf"], 2, "", "a rule that isn't there")
         self.check(["verdict", "--accept", "none.txt", "app.gf"], 2, "", "none.txt: this file can't be read")
         for words in (["--accept", "accepted.txt"], ["--accept"], ["--fast", "app.gf"], ["app.gf", "app.gfc", "app.gfc"], ["--rules", "app.gf"]):
@@ -431,6 +441,7 @@ class Tests:
         self.count.check(rest == ["  shown: in/shown.witness-1.gfs", "  shown: in/shown.witness-2.gfs", "  not shown; it may come to rest"], lambda: f"accepted: {found}")
         self.check(["verdict", "--witness", "app.gf"], 0, "no findings\n")
         self.check(["verdict", "--witness", "--off", "cycle", "cycle.gf"], 0, "no findings\n")
+        self.check(["verdict", "--witness", "rests.gf"], 0, self.program(["verdict", "--program", "rests.gf"], RESTS, "qt_tools"))
         told = self.program(["verdict", "--program", "loose.gf"], LOOSE, "qt_tools")
         self.check(["verdict", "--witness", "loose.gf"], 2, told, "a text is refused")
         self.check(["verdict", "--out", "in", "app.gf"], 2, "", "`--out` is for what `--witness` writes")
@@ -490,7 +501,7 @@ class Tests:
                 wanted, found = place.run(words), place.run(words, program=command, env=environment)
                 self.count.check(found == wanted, lambda: f"installed {command} {words}: {found}, wanted {wanted}")
         found = place.run(["--version"], program="gammonfig", env=environment)
-        self.count.check(found == (0, "gammonfig 0.4.0, proved with rattle-kit-13f\n", ""), lambda: f"installed --version: {found}")
+        self.count.check(found == (0, f"gammonfig 0.4.0, proved with {PROVED_WITH.split()[0]}\n", ""), lambda: f"installed --version: {found}")
         self.count.check(not os.path.exists(f"{place.folder}/nobody"), lambda: "an installed wrapper needs a cache")
         for name in ("share/bash-completion/completions/gammonfig", "share/zsh/site-functions/_gammonfig", "share/doc/gammonfig/docs/commands.md", "bin/trace_view"):
             self.count.check(os.path.isfile(f"{prefix}/{name}"), lambda: f"{name} isn't installed")

@@ -1,8 +1,8 @@
 -- The words of a command line, one after another.
 use Rattle.std.proofs.Common.{◌≡◌, ℕ, Bool, true, false, List, [], ◌∷◌, codes, Option, Some, None, MatchOption, subst, sym, ◌∙◌}
-use Rattle.command_lines.specs.Words.{IsLimit, IsRun, IsNoLimit, IsNoRun, IsCommand, IsNoCommand, IsLineOf, IsNoLine, BeginsOtherwise}
+use Rattle.command_lines.specs.Words.{IsLimit, IsRun, IsSettlingRun, IsNoLimit, IsNoRun, IsNoSettlingRun, IsCommand, IsNoCommand, IsLineOf, IsNoLine, BeginsOtherwise}
 use Rattle.command_lines.specs.declared.words.Command.{Command}
-use Rattle.command_lines.specs.declared.words.Command.TheVariants.{Meta, Certify, Check, CertifySettling, CheckSettling, Run, RunUnchecked}
+use Rattle.command_lines.specs.declared.words.Command.TheVariants.{Meta, Certify, Check, CertifySettling, CheckSettling, Run, RunSettling, RunUnchecked}
 
 pub after_first : (words rest others : List (List ℕ)) (word other : List ℕ) → words ≡ word ∷ rest → words ≡ other ∷ others → rest ≡ others
 after_first words rest others word other p q = cc
@@ -14,6 +14,16 @@ run_of_limit words rest None are h =
     λ steps r. h steps (subst (λ o. IsLimit o steps) (sym (after_first words rest r.options _ _ are r.are)) r.limited)
 run_of_limit words rest (Some steps) are h = record { options = rest; are = are; limited = h }
 
+-- .. and so is what follows `run --settling`
+pub settling_run_of_limit : (words rest options : List (List ℕ)) (said : Option ℕ) → words ≡ codes "run" ∷ rest → rest ≡ codes "--settling" ∷ options →
+    MatchOption said (IsNoLimit options) (λ steps. IsLimit options steps) → MatchOption said (IsNoSettlingRun words) (λ steps. IsSettlingRun words steps)
+settling_run_of_limit words rest options None are behind h =
+    λ steps r.
+    let one = after_first words rest (codes "--settling" ∷ r.options) _ _ are r.are in
+    h steps (subst (λ o. IsLimit o steps) (sym (after_first rest options r.options _ _ behind one)) r.limited)
+settling_run_of_limit words rest options (Some steps) are behind h =
+    record { options = options; are = subst (λ (o : List (List ℕ)). words ≡ codes "run" ∷ o) behind are; limited = h }
+
 -- ---- `--wide` in front of a command
 
 -- no command begins so
@@ -24,6 +34,7 @@ not_wide words rest Check are is = let no : codes "--wide" ∷ rest ≡ codes "c
 not_wide words rest CertifySettling are is = let no : codes "--wide" ∷ rest ≡ codes "certify" ∷ codes "--settling" ∷ [] = sym are ∙ is in cc no
 not_wide words rest CheckSettling are is = let no : codes "--wide" ∷ rest ≡ codes "check" ∷ codes "--settling" ∷ [] = sym are ∙ is in cc no
 not_wide words rest (Run steps) are is = let no : codes "--wide" ∷ rest ≡ codes "run" ∷ is.options = sym are ∙ is.are in cc no
+not_wide words rest (RunSettling steps) are is = let no : codes "--wide" ∷ rest ≡ codes "run" ∷ codes "--settling" ∷ is.options = sym are ∙ is.are in cc no
 not_wide words rest (RunUnchecked options) are is =
     let no : codes "--wide" ∷ rest ≡ codes "run" ∷ codes "--unchecked" ∷ is.word ∷ is.options = sym are ∙ is.are in
     cc no

@@ -3,7 +3,7 @@ use Rattle.std.specs.Prelude.{◌≡◌, ◌≢◌, ℕ, ◌-◌, ◌^◌, ◌<�
 use Rattle.texts.specs.Limits.{most_depth}
 use Rattle.texts.specs.Numerals.{IsNumeral}
 use Rattle.command_lines.specs.declared.words.Command.{Command}
-use Rattle.command_lines.specs.declared.words.Command.TheVariants.{Meta, Certify, Check, CertifySettling, CheckSettling, Run, RunUnchecked}
+use Rattle.command_lines.specs.declared.words.Command.TheVariants.{Meta, Certify, Check, CertifySettling, CheckSettling, Run, RunSettling, RunUnchecked}
 use Rattle.command_lines.specs.declared.words.CommandLine.{CommandLine}
 
 -- decimal digits that write a number from 1 to the largest one
@@ -21,6 +21,12 @@ IsLimit words steps = ((words ≡ []) × (steps ≡ 1000000))
 pub record IsRun (words : List (List ℕ)) (steps : ℕ) : Type 0 where
   pub options : List (List ℕ)
   pub are : words ≡ codes "run" ∷ options
+  pub limited : IsLimit options steps
+
+-- `run --settling`, and then the limit
+pub record IsSettlingRun (words : List (List ℕ)) (steps : ℕ) : Type 0 where
+  pub options : List (List ℕ)
+  pub are : words ≡ codes "run" ∷ codes "--settling" ∷ options
   pub limited : IsLimit options steps
 
 -- `run --unchecked N`, and then the limit
@@ -45,6 +51,7 @@ IsCommand words Check = words ≡ codes "check" ∷ []
 IsCommand words CertifySettling = words ≡ codes "certify" ∷ codes "--settling" ∷ []
 IsCommand words CheckSettling = words ≡ codes "check" ∷ codes "--settling" ∷ []
 IsCommand words (Run steps) = IsRun words steps
+IsCommand words (RunSettling steps) = IsSettlingRun words steps
 IsCommand words (RunUnchecked options) = IsUncheckedRun words options.depth options.steps
 
 -- `--wide`, and then the words of this command
@@ -73,6 +80,7 @@ IsWithinLimits Check = Unit {0}
 IsWithinLimits CertifySettling = Unit {0}
 IsWithinLimits CheckSettling = Unit {0}
 IsWithinLimits (Run steps) = AreSteps steps
+IsWithinLimits (RunSettling steps) = AreSteps steps
 IsWithinLimits (RunUnchecked options) = (1 ≤ options.depth) × (options.depth ≤ most_depth) × AreSteps options.steps
 
 -- what the words don't say
@@ -84,6 +92,9 @@ IsNoLimit words = (steps : ℕ) → IsLimit words steps → ⊥
 
 abbrev pub IsNoRun : List (List ℕ) → Type 0
 IsNoRun words = (steps : ℕ) → IsRun words steps → ⊥
+
+abbrev pub IsNoSettlingRun : List (List ℕ) → Type 0
+IsNoSettlingRun words = (steps : ℕ) → IsSettlingRun words steps → ⊥
 
 abbrev pub IsNoUncheckedRun : List (List ℕ) → Type 0
 IsNoUncheckedRun words = (depth steps : ℕ) → IsUncheckedRun words depth steps → ⊥

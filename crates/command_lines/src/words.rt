@@ -3,8 +3,8 @@
 ghost use Rattle.std.specs.Prelude.{◌≡◌, ◌↔◌, Some, ◌≤◌, ◌<◌, ◌^◌, [], ◌∷◌, map, codes};
 ghost use Rattle.std.specs.Prelude.{IsTrue, IfSome, MatchOption};
 ghost use Rattle.texts.specs.Limits.{most_depth};
-ghost use Rattle.command_lines.specs.Words.{IsNumber, IsFirstNumber, IsLimit, IsRun, IsUncheckedRun, IsCommand, IsLine};
-ghost use Rattle.command_lines.specs.Words.{IsNoNumber, IsNoLimit, IsNoRun, IsNoUncheckedRun, IsNoCommand, IsNoLine};
+ghost use Rattle.command_lines.specs.Words.{IsNumber, IsFirstNumber, IsLimit, IsRun, IsSettlingRun, IsUncheckedRun, IsCommand, IsLine};
+ghost use Rattle.command_lines.specs.Words.{IsNoNumber, IsNoLimit, IsNoRun, IsNoSettlingRun, IsNoUncheckedRun, IsNoCommand, IsNoLine};
 ghost use Rattle.command_lines.specs.Words.{BeginsOtherwise, BeginsWithNoNumber, IsWithinLimits};
 
 use texts::MOST_DEPTH;
@@ -28,6 +28,9 @@ pub enum Command {
     CheckSettling,
     /// `run [--steps M]`: a program runs on a script where its certificate is valid, with this limit of rules.
     Run(u64),
+    /// `run --settling [--steps M]`: a program runs on a script where its settling certificate is valid, with this limit of
+    /// rules.
+    RunSettling(u64),
     /// `run --unchecked N [--steps M]`: a program runs on a script.
     RunUnchecked(Options),
 }
@@ -56,6 +59,9 @@ impl Command {
         }
         if let Some(steps) = steps_of_run(words) {
             return Some(Command::Run(steps));
+        }
+        if let Some(steps) = steps_of_settling_run(words) {
+            return Some(Command::RunSettling(steps));
         }
         let options = Options::of(words)?;
         Some(Command::RunUnchecked(options))
@@ -120,6 +126,17 @@ fn steps_of_run(words: &[&str]) -> Option<u64>
     ensures within { IfSome result (λ steps. (1 ≤ steps) × (steps < 2 ^ 63)) }
 {
     let words = after(words, "run")?;
+    limit(words)
+}
+
+/// The limit of rules in the words `run --settling [--steps M]`, if they are those of a run with a settling certificate.
+fn steps_of_settling_run(words: &[&str]) -> Option<u64>
+    ensures said { let said = map (λ w. w.now) words.now in
+        MatchOption result (IsNoSettlingRun said) (λ steps. IsSettlingRun said steps) }
+    ensures within { IfSome result (λ steps. (1 ≤ steps) × (steps < 2 ^ 63)) }
+{
+    let words = after(words, "run")?;
+    let words = after(words, "--settling")?;
     limit(words)
 }
 

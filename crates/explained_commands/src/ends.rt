@@ -140,16 +140,17 @@ fn explain<M: ObjectMachine, E: Write>(
         }
         Outcome::Ran(ran) => {
             let last = answered.carried.last.as_slice();
-            tell(errors, report_on_fault(alloc, input, ran, last))
+            tell(errors, report_on_fault(alloc, words, input, ran, last))
         }
         _ => {}
     }
 }
 
-/// What is reported of the fault that stopped a run, if one did, from what was written down since the last whole event, and
+/// What is reported of the fault that stopped a run of these words, if one did, from what was written down since the last whole event, and
 /// from what was for that one.
 fn report_on_fault<M: ObjectMachine>(
     alloc: Global,
+    words: &[&str],
     input: Option<&[u8]>,
     ran: &Ran<M>,
     last: &[Entry],
@@ -157,7 +158,8 @@ fn report_on_fault<M: ObjectMachine>(
     let Err(fault) = ran.ended else {
         return Ok(None);
     };
-    Ok(Some(fault_report(alloc, input, ran.trace(), last, fault)?))
+    let is_settling = words.contains(&"--settling");
+    Ok(Some(fault_report(alloc, input, ran.trace(), last, fault, is_settling)?))
 }
 
 /// Writes a text, if there is one.

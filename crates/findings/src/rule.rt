@@ -33,6 +33,7 @@ pub enum Rule {
     CertificateSyntax,
     ReEntry,
     QueuedCycle,
+    SettlingCycle,
     SenderDeleted,
     DeletesConnected,
     WireUnused,
@@ -43,7 +44,7 @@ pub enum Rule {
 
 impl Rule {
     /// All of them.
-    pub const ALL: [Rule; 31] = [
+    pub const ALL: [Rule; 32] = [
         Rule::PlainReference,
         Rule::TooManyParameters,
         Rule::BadToken,
@@ -69,6 +70,7 @@ impl Rule {
         Rule::CertificateSyntax,
         Rule::ReEntry,
         Rule::QueuedCycle,
+        Rule::SettlingCycle,
         Rule::SenderDeleted,
         Rule::DeletesConnected,
         Rule::WireUnused,

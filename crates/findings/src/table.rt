@@ -114,6 +114,14 @@ impl RuleRow {
                 "members may lead to one another through an event loop, for as long as that runs",
                 "let a member on the way stop it: what is posted comes round with each turn of the event loop",
             ),
+            Rule::SettlingCycle => RuleRow {
+                severity: FindingSeverity::Note,
+                ..warning(
+                    "settling-cycle",
+                    "members may call one another, but come to rest",
+                    "`certify --settling` makes the program's certificate, and `run --settling` runs it",
+                )
+            },
             Rule::DeletesConnected => RuleRow {
                 severity: FindingSeverity::Note,
                 ..warning(

@@ -3,11 +3,15 @@
 use crate::trials::{CERTIFICATE, ReportBuffer, SCRIPT, SOURCE, TrialAnswer};
 use native_slots::Natives;
 use std::alloc::Global;
-use trace_tool::{WriteFault, certify, check, command, meta, run, run_unchecked};
+use trace_tool::{WriteFault, certify, check, command, meta, run, run_settling, run_unchecked};
 
 /// A counter that is wired to itself.
 pub const COUNTER: &str =
     "class Counter { property int value notify valueChanged(int); signal valueChanged(int); slot setValue(int v) { set this.value = v; } } wire Counter valueChanged(int) -> Counter setValue(int) direct;";
+
+/// Its settling certificate.
+const SETTLING: &str =
+    "settling 1\nbound 4 3\nQObject.destroyed(QObject*) 0 0\nQObject.objectNameChanged(QString) 0 0\nQObject.deleteLater() 0 0\nQObject.objectName 1 0\n~QObject 1 0 ~QObject\nCounter.destroyed(QObject*) 0 0\nCounter.objectNameChanged(QString) 0 0\nCounter.deleteLater() 0 0\nCounter.valueChanged(int) 2 3\nCounter.setValue(int) 1 3\nCounter.objectName 1 0\nCounter.value 3 3\n~Counter 1 0 ~Counter\nround 3 Counter.setValue(int) Counter.value Counter.valueChanged(int)\n";
 
 /// Two counters that follow one another.
 const COUNTING: &str =
@@ -52,6 +56,22 @@ pub fn checked_run(alloc: Global, told: &mut ReportBuffer) -> TrialAnswer {
             SOURCE.as_bytes(),
             CERTIFICATE.as_bytes(),
             SCRIPT.as_bytes(),
+            Natives::of(Vec::new(alloc)),
+            STEPS,
+            &mut told.text,
+        )
+        .status,
+    )
+}
+
+/// `run_settling`.
+pub fn settling_run(alloc: Global, told: &mut ReportBuffer) -> TrialAnswer {
+    ended(
+        run_settling(
+            alloc,
+            COUNTER.as_bytes(),
+            SETTLING.as_bytes(),
+            COUNTING.as_bytes(),
             Natives::of(Vec::new(alloc)),
             STEPS,
             &mut told.text,

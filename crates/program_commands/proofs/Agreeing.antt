@@ -18,6 +18,7 @@ refused_some (refusal.Loading fault) e = some_status 2 _ (omega arith) e
 refused_some (refusal.Certificate fault) e = some_status 2 _ (omega arith) e
 refused_some (refusal.Script fault) e = some_status 2 _ (omega arith) e
 refused_some (refusal.Check w) e = some_status 3 _ (omega arith) e
+refused_some (refusal.Unsettled reason) e = some_status 3 _ (omega arith) e
 refused_some (refusal.Natives fault) e = omega (arith, e)
 
 reason_some : (w : Why) → ¬ (reason_status w ≡ 0)

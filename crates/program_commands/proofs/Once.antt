@@ -198,6 +198,7 @@ short_refusal (refusal.Loading fault) is = record { line = ap (line_of (codes "r
 short_refusal (refusal.Certificate fault) is = record { line = ap (line_of (codes "refused ")) is; status_is = ap (status_of 2) is }
 short_refusal (refusal.Script fault) is = script_short fault is
 short_refusal (refusal.Check w) is = record { line = ap (line_of (codes "no ")) is; status_is = ap (status_of 3) is }
+short_refusal (refusal.Unsettled reason) is = record { line = ap (line_of (codes "no ")) is; status_is = ap (status_of 3) is }
 short_refusal (refusal.Natives fault) is = absurd (cc is)
 
 pub one_description : OneDescription

@@ -1,5 +1,5 @@
 -- `check --settling` comes to one thing, unless memory runs out, and `certify --settling` to one of a program.
-use Rattle.std.proofs.Common.{◌≡◌, ◌⊎◌, inl, inr, ℕ, List, None, Result, Ok, Err, codes, refl, sym, ap, ◌∙◌, subst}
+use Rattle.std.proofs.Common.{◌≡◌, inl, inr, ℕ, List, None, Result, Ok, Err, refl, sym, ap, ◌∙◌, subst}
 use Rattle.certificate_lang.specs.{Reads.{number_of as certificate_number}, declared.fault.CertificateFault.{CertificateFault}}
 use Rattle.certificate_lang.specs.declared.fault.CertificateFault.TheVariants as of_certificate
 use Rattle.class_lang.specs.declared.size.Limits.{Limits}
@@ -9,7 +9,8 @@ use Rattle.rank_check.specs.{Checks.{number_of as no_number}, declared.no.No.{No
 use Rattle.rank_check.specs.declared.no.No.TheVariants.{Wire, BodyType, Missing, Extra, Edge, Destroys, Bound, Memory}
 use Rattle.settling.specs.{Checks.{Checking, Checks, IsNo}, Valid.{HasEachNode, HasNothingElse, EdgesFall, SetsHold, IsBounded, AreRounds, IsValid}, declared.certificate.SettlingCertificate.{SettlingCertificate}}
 use Rattle.settling_texts.{specs.Reads.{ReadsSettling}, proofs.Certificates.{one_settling}}
-use Rattle.program_commands.{specs.Commands.{IsSameOutcome, OneSettlingCertifying, OneSettlingCheck}, specs.declared.outcome.Outcome.{Outcome}, specs.declared.outcome.Outcome.TheVariants.{Refused, Settling}, specs.Settling.{Certifies, made, none}, specs.Steps.{fails, goes_on}, specs.declared.settling_commands.outcome.SettlingOutcome.TheVariants.{Invalid}, specs.Loading.{LoadsSettling}, specs.Outcomes.{IsShort}, specs.Refusals.{line_of, status_of}, proofs.Once.{OneOf, one_first, one_is, both_fail, one_fails, same_found, loads_once, IsShortResult, same_short, never_short, short_refusal}, proofs.Verdicts.{IsNoOf, none_fails, one_no}}
+use Rattle.program_commands.{specs.Commands.{IsSameOutcome, OneSettlingCertifying, OneSettlingCheck}, specs.declared.outcome.Outcome.{Outcome}, specs.declared.outcome.Outcome.TheVariants.{Refused}, specs.Settling.{Certifies, made, none}, specs.Steps.{fails, goes_on}, specs.Loading.{LoadsSettling, LoadsSettled}, specs.Outcomes.{IsShort}, specs.Refusals.{refusal_number}, proofs.Once.{OneOf, one_first, one_is, both_fail, one_fails, same_found, loads_once, IsShortResult, same_short, never_short, short_refusal}, proofs.Verdicts.{IsNoOf, none_fails, one_no}}
+use Rattle.program_commands.specs.declared.refusal.Refusal.TheVariants as refusal
 
 -- ---- the certificate is read
 abbrev IsShortReading : Result SettlingCertificate CertificateFault → Type 0
@@ -24,14 +25,14 @@ reading_once text (Err of_certificate.Format) (Err of_certificate.Format) h k = 
 reading_once text (Err of_certificate.Format) (Err of_certificate.Memory) h k = inr (inl refl)
 reading_once text (Err of_certificate.Memory) b h k = inl refl
 
-settling_once : (limits : Limits) (program certificate : List ℕ) → OneOf IsShortResult (LoadsSettling limits program certificate)
+pub settling_once : (limits : Limits) (program certificate : List ℕ) → OneOf IsShortResult (LoadsSettling limits program certificate)
 settling_once limits program certificate =
     one_first IsShortResult IsShortResult (loads_once limits program) same_short never_short
     (λ loaded. one_first IsShortReading IsShortResult (reading_once certificate) (λ fault is. let same : fault ≡ of_certificate.Memory = cc is in ap certificate_number same) (λ x e. cc e)
     (λ read. one_is IsShortResult (Ok (loaded, read))))
 
 -- ---- the certificate is checked
-abbrev IsShortCheck : Result Checking No → Type 0
+abbrev pub IsShortCheck : Result Checking No → Type 0
 IsShortCheck r = r ≡ Err Memory
 
 abbrev as_err : No → Result Checking No
@@ -52,30 +53,31 @@ module _ (p : Loaded) (c : SettlingCertificate) where
   valid_no : IsValid p c → (answer : No) → IsNo p c answer → answer ≡ Memory
   valid_no v answer h = none_fails (AreFitWires p) (IsTypedProgram p) (HasEachNode p c) (HasNothingElse p c) (EdgesFall p c) (SetsHold p c) (IsBounded c × AreRounds p c) v.wires v.typed v.each_node v.nothing_else v.edges v.sets (v.bounded, v.rounds) answer (by_conditions answer h)
 
-  check_once : OneOf IsShortCheck (Checks p c)
-  check_once (Ok x) (Ok y) h g =
+  pub settling_check_once : OneOf IsShortCheck (Checks p c)
+  settling_check_once (Ok x) (Ok y) h g =
       inr (inr (
       ap (λ (q : Loaded). let z : Checking = record { program = q; certificate = x.certificate } in let r : Result Checking No = Ok z in r) (h.0 ∙ sym g.0)
       ∙ ap (λ (d : SettlingCertificate). let z : Checking = record { program = y.program; certificate = d } in let r : Result Checking No = Ok z in r) (h.1 ∙ sym g.1)
       ))
-  check_once (Ok x) (Err b) h g = inr (inl (ap as_err (valid_no h.2 b g)))
-  check_once (Err a) (Ok y) h g = inl (ap as_err (valid_no g.2 a h))
-  check_once (Err a) (Err b) h g =
+  settling_check_once (Ok x) (Err b) h g = inr (inl (ap as_err (valid_no h.2 b g)))
+  settling_check_once (Err a) (Ok y) h g = inl (ap as_err (valid_no g.2 a h))
+  settling_check_once (Err a) (Err b) h g =
       elim (one_no (AreFitWires p) (IsTypedProgram p) (HasEachNode p c) (HasNothingElse p c) (EdgesFall p c) (SetsHold p c) (IsBounded c × AreRounds p c) a b (by_conditions a h) (by_conditions b g)) [
         | inl memory ↦ inl (ap as_err memory)
         | inr (inl memory) ↦ inr (inl (ap as_err memory))
         | inr (inr same) ↦ inr (inr (ap as_err same))
       ]
 
-short_check : (answer : No) → IsShortCheck (Err answer) → IsShort (Settling (Invalid answer))
-short_check answer is =
-    let same : answer ≡ Memory = cc is in
-    record { line = ap (λ (a : No). line_of (codes "no ") (no_number a)) same; status_is = ap (λ (a : No). status_of 3 (no_number a)) same }
+pub settling_short : (answer : No) → IsShortCheck (Err answer) → refusal_number (refusal.Unsettled answer) ≡ None
+settling_short answer is = let same : answer ≡ Memory = cc is in ap no_number same
+
+settled_once : (limits : Limits) (program certificate : List ℕ) → OneOf IsShortResult (LoadsSettled limits program certificate)
+settled_once limits program certificate =
+    one_first IsShortResult IsShortResult (settling_once limits program certificate) same_short never_short
+    (λ both. one_first IsShortCheck IsShortResult (settling_check_once both.0 both.1) settling_short (λ x e. cc e) (λ checked. one_is IsShortResult (Ok checked)))
 
 pub one_settling_check : OneSettlingCheck
-one_settling_check limits program certificate =
-    one_first IsShortResult IsShort (settling_once limits program certificate) short_refusal never_short
-    (λ both. one_first IsShortCheck IsShort (check_once both.0 both.1) short_check (λ x e. cc e) (λ checked. one_is IsShort _))
+one_settling_check limits program certificate = one_first IsShortResult IsShort (settled_once limits program certificate) short_refusal never_short (λ checked. one_is IsShort _)
 
 -- ---- a certificate is made
 certified_same : (p : Loaded) (a b : Outcome) → Certifies p a → Certifies p b → IsSameOutcome a b

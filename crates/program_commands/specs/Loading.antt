@@ -7,10 +7,11 @@ use Rattle.class_lang.specs.declared.size.Limits.{Limits}
 use Rattle.meta_objects.specs.Builds.{Builds}
 use Rattle.meta_model.specs.Loaded.{Loaded}
 use Rattle.rank_check.specs.Checks.{Checking, Examines}
+use Rattle.settling.specs.Checks.{Checking as Settled, Checks as ChecksSettling}
 use Rattle.settling.specs.declared.certificate.SettlingCertificate.{SettlingCertificate}
 use Rattle.settling_texts.specs.Reads.{ReadsSettling}
 use Rattle.program_commands.specs.declared.refusal.Refusal.{Refusal}
-use Rattle.program_commands.specs.declared.refusal.Refusal.TheVariants.{Text, Loading, Certificate as OfCertificate, Check}
+use Rattle.program_commands.specs.declared.refusal.Refusal.TheVariants.{Text, Loading, Certificate as OfCertificate, Check, Unsettled}
 use Rattle.program_commands.specs.Steps.{First, Gives}
 
 -- the program, and this certificate
@@ -40,3 +41,9 @@ abbrev pub LoadsSettling : Limits → List ℕ → List ℕ → Result (Loaded �
 LoadsSettling limits program certificate =
     First (LoadsProgram limits program) Err (λ loaded.
     First (ReadsSettling certificate) (λ fault. Err (OfCertificate fault)) (λ read. Gives (loaded, read)))
+
+-- the program and its settling certificate are read, and then the one is checked with the other
+abbrev pub LoadsSettled : Limits → List ℕ → List ℕ → Result Settled Refusal → Type 0
+LoadsSettled limits program certificate =
+    First (LoadsSettling limits program certificate) Err (λ both.
+    First (ChecksSettling both.0 both.1) (λ reason. Err (Unsettled reason)) Gives)

@@ -1,27 +1,24 @@
 -- What commands write of what they come to, and their exit status (docs/commands.md, "Exit status").
-use Rattle.std.specs.Prelude.{◌≡◌, ℕ, List, codes, Option, Result}
+use Rattle.std.specs.Prelude.{◌≡◌, ℕ, List, Option, Result}
 use Rattle.command_lines.specs.MetaLines.{meta_text}
 use Rattle.command_lines.specs.Sent.{TakesWith}
-use Rattle.rank_check.specs.Checks.{number_of as no_number}
 use Rattle.program_commands.specs.declared.outcome.Outcome.{Outcome}
 use Rattle.program_commands.specs.declared.outcome.Outcome.TheVariants.{Refused, Classes, Certificate, Uncertified, Valid, Settling}
 use Rattle.program_commands.specs.declared.settling_commands.outcome.SettlingOutcome.{SettlingOutcome}
 use Rattle.program_commands.specs.declared.settling_commands.outcome.SettlingOutcome.TheVariants as settling
 use Rattle.program_commands.specs.Reasons.{reason_line, reason_status}
-use Rattle.program_commands.specs.Refusals.{yes_line, memory_line, refusal_line, refusal_status, line_of, status_of}
+use Rattle.program_commands.specs.Refusals.{yes_line, memory_line, refusal_line, refusal_status}
 
 -- the bytes of what a command on settling certificates comes to
 abbrev pub settling_text : SettlingOutcome → List ℕ
 settling_text (settling.Certificate p text) = text
 settling_text (settling.Uncertified p why) = reason_line p why
-settling_text (settling.Invalid reason) = line_of (codes "no ") (no_number reason)
 settling_text (settling.Valid checked) = yes_line
 
 -- its exit status
 abbrev pub settling_status : SettlingOutcome → ℕ
 settling_status (settling.Certificate p text) = 0
 settling_status (settling.Uncertified p why) = reason_status why
-settling_status (settling.Invalid reason) = status_of 3 (no_number reason)
 settling_status (settling.Valid checked) = 0
 
 -- the bytes of an outcome

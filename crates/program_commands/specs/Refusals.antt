@@ -9,7 +9,7 @@ use Rattle.native_slots.specs.Misfits.{fault_of}
 use Rattle.script_lang.specs.declared.fault.ScriptFault.{ScriptFault}
 use Rattle.script_lang.specs.declared.fault.ScriptFault.TheVariants.{TooLarge, BadLine, Memory}
 use Rattle.program_commands.specs.declared.refusal.Refusal.{Refusal}
-use Rattle.program_commands.specs.declared.refusal.Refusal.TheVariants.{Text, Loading, Certificate, Script, Check, Natives}
+use Rattle.program_commands.specs.declared.refusal.Refusal.TheVariants.{Text, Loading, Certificate, Script, Check, Unsettled, Natives}
 use Rattle.command_lines.specs.Lines.{newline}
 
 -- the number of a refused script; running out of memory has none
@@ -25,6 +25,7 @@ refusal_number (Loading fault) = meta_number fault
 refusal_number (Certificate fault) = certificate_number fault
 refusal_number (Script fault) = script_number fault
 refusal_number (Check denial) = no_number denial.no
+refusal_number (Unsettled reason) = no_number reason
 refusal_number (Natives misfit) = Some (native_number (fault_of misfit))
 
 -- ---- lines
@@ -58,6 +59,7 @@ refusal_line (Loading fault) = line_of (codes "refused ") (meta_number fault)
 refusal_line (Certificate fault) = line_of (codes "refused ") (certificate_number fault)
 refusal_line (Script fault) = script_line fault
 refusal_line (Check denial) = line_of (codes "no ") (no_number denial.no)
+refusal_line (Unsettled reason) = line_of (codes "no ") (no_number reason)
 refusal_line (Natives misfit) = line_of (codes "refused ") (Some (native_number (fault_of misfit)))
 
 -- ---- the exit status
@@ -73,4 +75,5 @@ refusal_status (Loading fault) = status_of 2 (meta_number fault)
 refusal_status (Certificate fault) = status_of 2 (certificate_number fault)
 refusal_status (Script fault) = status_of 2 (script_number fault)
 refusal_status (Check denial) = status_of 3 (no_number denial.no)
+refusal_status (Unsettled reason) = status_of 3 (no_number reason)
 refusal_status (Natives misfit) = status_of 2 (Some (native_number (fault_of misfit)))

@@ -1,6 +1,6 @@
 -- What the commands on settling certificates come to (docs/settling.md). Memory may run out at any step; that it comes only where a
 -- growth of memory was refused is not stated here.
-use Rattle.std.specs.{Prelude.{◌≡◌, ◌⊎◌, ℕ, List, [], ◌∷◌, Some, Ok, Err}, List.{Contains}}
+use Rattle.std.specs.{Prelude.{◌≡◌, ◌⊎◌, ℕ, List, [], ◌∷◌, Some, Ok}, List.{Contains}}
 use Rattle.certificate_lang.specs.declared.certificate.Certificate.{Certificate as Plain}
 use Rattle.class_lang.specs.declared.size.Limits.{Limits}
 use Rattle.meta_model.specs.Loaded.{Loaded}
@@ -10,16 +10,14 @@ use Rattle.rank_check.specs.Entries.{IsReady}
 use Rattle.rank_check.specs.Valid as plain
 use Rattle.rank_graph.specs.Walks.{ComesBack}
 use Rattle.rank_make.specs.{Walks.{LeadsToDestruction}, declared.why.Why.{Why}, declared.why.Why.TheVariants.{Wire, BodyType, Cycle, DestroyPath, TooHigh, Memory}}
-use Rattle.settling.specs.{Checks.{Checks}, Hands.{HandOn}, Settles.{Carries, IsProperty}, declared.certificate.SettlingCertificate.{SettlingCertificate}}
+use Rattle.settling.specs.{Checks.{Checking}, Hands.{HandOn}, Settles.{Carries, IsProperty}, declared.certificate.SettlingCertificate.{SettlingCertificate}}
 use Rattle.settling_make.specs.{Circles.{NoneIsValid}, Makes.{Makes, IsLong, RanksAreTooHigh, StepsAreTooHigh}, Flat.{MakesFlat}, Least.{MakesLeast}}
 use Rattle.settling_texts.specs.Texts.{settling_text}
-use Rattle.program_commands.specs.{declared.outcome.Outcome.{Outcome}, declared.outcome.Outcome.TheVariants.{Refused, Settling}, declared.settling_commands.outcome.SettlingOutcome.TheVariants.{Certificate, Uncertified, Invalid, Valid}, Loading.{LoadsProgram, LoadsSettling}, Steps.{First, Is}}
+use Rattle.program_commands.specs.{declared.outcome.Outcome.{Outcome}, declared.outcome.Outcome.TheVariants.{Refused, Settling}, declared.settling_commands.outcome.SettlingOutcome.TheVariants.{Certificate, Uncertified, Valid}, Loading.{LoadsProgram, LoadsSettled}, Outcomes.{IsShort}, Steps.{First, Is}}
 
 -- `check --settling`, from the limits and the texts of the program and the settling certificate
 abbrev pub CheckSettlingComesTo : Limits → List ℕ → List ℕ → Outcome → Type 0
-CheckSettlingComesTo limits program certificate =
-    First (LoadsSettling limits program certificate) Refused (λ both.
-    First (Checks both.0 both.1) (λ reason. Settling (Invalid reason)) (λ checked. Is (Settling (Valid checked))))
+CheckSettlingComesTo limits program certificate = First (LoadsSettled limits program certificate) Refused (λ checked. Is (Settling (Valid checked)))
 
 -- ---- `certify --settling`
 
@@ -56,3 +54,20 @@ pub data Certifies (p : Loaded) : Outcome → Type 0 where
 -- `certify --settling`, from the limits and the program's text
 abbrev pub CertifySettlingComesTo : Limits → List ℕ → Outcome → Type 0
 CertifySettlingComesTo limits program = First (LoadsProgram limits program) Refused Certifies
+
+-- ---- law
+
+-- The text is that of a settling certificate with which from the program's text `check --settling` comes to a yes, and unless memory
+-- runs out to nothing else.
+pub record IsSettlingAgreed (limits : Limits) (program : List ℕ) (p : Loaded) (text : List ℕ) : Type 0 where
+  pub checked : Checking
+  pub for : checked.program ≡ p
+  pub is : text ≡ settling_text checked.certificate
+  pub agreed : CheckSettlingComesTo limits program text (Settling (Valid checked))
+  pub only : (told : Outcome) → CheckSettlingComesTo limits program text told → IsShort told ⊎ (told ≡ Settling (Valid checked))
+
+-- so it is of each text that `certify --settling` comes to
+abbrev pub SettlingIsAgreed : Type 0
+SettlingIsAgreed =
+    (limits : Limits) (program : List ℕ) (p : Loaded) (text : List ℕ) → CertifySettlingComesTo limits program (Settling (Certificate p text)) →
+    IsSettlingAgreed limits program p text

@@ -29,5 +29,5 @@ pub use rank_make::{Ranks, Why};
 pub use refusal::Refusal;
 pub use settling_commands::{
     SettlingOutcome, certify_settling, certify_settling_outcome, check_settling,
-    check_settling_outcome,
+    check_settling_outcome, load_settling, settling_is_agreed,
 };

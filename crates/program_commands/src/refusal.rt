@@ -9,7 +9,7 @@ use class_lang::TextFault;
 use command_lines::Output;
 use meta_objects::MetaFault;
 use native_slots::Misfit;
-use rank_check::Denied;
+use rank_check::{Denied, No};
 use script_lang::ScriptFault;
 use std::io::Write;
 use thiserror::Error;
@@ -32,6 +32,9 @@ pub enum Refusal {
     /// The certificate isn't valid for the program.
     #[error(transparent)]
     Check(Denied),
+    /// The settling certificate isn't valid for the program.
+    #[error(transparent)]
+    Unsettled(No),
     /// The closures aren't those of the natives that the program declares.
     #[error(transparent)]
     Natives(Misfit),
@@ -56,6 +59,7 @@ impl Refusal {
             Refusal::Certificate(fault) => fault.number(),
             Refusal::Script(fault) => number_of_script(fault),
             Refusal::Check(denied) => denied.no().number(),
+            Refusal::Unsettled(no) => no.number(),
             Refusal::Natives(misfit) => Some(misfit.fault().number()),
         }
     }
@@ -70,6 +74,7 @@ impl Refusal {
             Refusal::Certificate(fault) => status_or_undone(REFUSED, fault.number()),
             Refusal::Script(fault) => status_or_undone(REFUSED, number_of_script(fault)),
             Refusal::Check(denied) => status_or_undone(DENIED, denied.no().number()),
+            Refusal::Unsettled(no) => status_or_undone(DENIED, no.number()),
             Refusal::Natives(misfit) => { status_or_undone(REFUSED, Some(misfit.fault().number())) }
         }
     }
@@ -84,6 +89,7 @@ impl Refusal {
             Refusal::Certificate(fault) => put_line(output, b"refused ", fault.number()),
             Refusal::Script(fault) => put_script(output, fault),
             Refusal::Check(denied) => put_line(output, b"no ", denied.no().number()),
+            Refusal::Unsettled(no) => put_line(output, b"no ", no.number()),
             Refusal::Natives(misfit) => output.numbered(b"refused ", misfit.fault().number()),
         }
     }
@@ -194,5 +200,16 @@ impl From<Misfit> for Refusal {
 
     fn from(misfit: Misfit) -> Refusal {
         Refusal::Natives(misfit)
+    }
+}
+
+impl From<No> for Refusal {
+    ghost use Rattle.std.specs.Prelude.{◌≡◌};
+    ghost use Rattle.program_commands.specs.declared.refusal.Refusal.TheVariants.{Unsettled};
+
+    ghost from_gives = { λ reason refusal. refusal ≡ Unsettled reason };
+
+    fn from(no: No) -> Refusal {
+        Refusal::Unsettled(no)
     }
 }

@@ -5,9 +5,12 @@
 mod compared;
 mod declarations;
 mod edge;
+mod expression;
 mod ill_typed;
 mod names;
 mod node_name;
+mod obstacles;
+mod other_value;
 mod rows;
 mod source;
 mod statement;
@@ -19,6 +22,7 @@ pub use declarations::{FurtherFlaw, declaration_flaw, further_declaration_flaws,
 pub use edge::push_edge;
 pub use ill_typed::flaw_text;
 pub use names::{class_text, node_text, property_text, sig_text, text_of};
+pub use obstacles::{Obstacle, obstacle_along, obstacle_between, obstacle_text, unsettled_text};
 pub use rows::cause_place;
 pub use source::{ProgramSource, declarations_of, declaring_class, meta_of};
 pub use warned::{OwnSlot, Ranked, Warning, Yes, told_beside, warning_text, warnings};

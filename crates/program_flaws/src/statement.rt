@@ -1,12 +1,13 @@
-//! How a statement is written, with `..` in the place of its expressions.
+//! How a statement is written.
 
+use crate::expression::LEFT_OUT;
 use crate::names::{method_text, property_text, text_of};
 use crate::source::ProgramSource;
 use edge_reasons::{Numbered, statement_at};
 use effect_scan::{Member, Node};
 use meta_model::{MetaMethod, MetaPath, MetaRoot, Statement, ValueType, Work};
 use std::alloc::AllocError;
-use syntax_trees::Slot;
+use syntax_trees::{Expr, Slot};
 
 /// Where a statement stands.
 #[derive(Clone, Copy)]
@@ -46,8 +47,8 @@ pub fn statement_of<'s>(
 
 /// A path as it is written, and the class that it is declared to lead to.
 #[derive(Drop)]
-struct Spelled {
-    text: String,
+pub struct Spelled {
+    pub text: String,
     class: Option<usize>,
 }
 
@@ -56,14 +57,12 @@ impl<'s> BodyContext<'s> {
     pub fn statement_text(&self, statement: &Statement) -> Result<String, AllocError> {
         let alloc = self.source.alloc;
         match statement {
-            Statement::Set(path, property, _) => self.set_text(path, *property),
+            Statement::Set(path, property, _) => self.set_text(path, *property, LEFT_OUT),
             Statement::Emit(signal, given) => {
-                let name = method_text(alloc, self.source.meta, Some(self.class), *signal)?;
-                let inner = inner_text(given.is_empty());
-                format!(in alloc; "emit {name}{inner};")
+                self.emit_text(*signal, inner_text(given.is_empty()))
             }
             Statement::Call(path, method, given) => {
-                self.call_text(path, *method, given.is_empty())
+                self.call_text(path, *method, inner_text(given.is_empty()))
             }
             Statement::If(_, _, _) => String::from_str(alloc, "if (..) { .. }"),
             Statement::Connect(_, _) => String::from_str(alloc, "connect ..;"),
@@ -80,32 +79,69 @@ impl<'s> BodyContext<'s> {
         }
     }
 
-    /// `set path.p = ..;`
-    fn set_text(&self, path: &MetaPath, property: usize) -> Result<String, AllocError> {
+    /// The same with its expressions, but for what is in it.
+    pub fn whole_text(&self, statement: &Statement) -> Result<String, AllocError> {
+        match statement {
+            Statement::Set(path, property, value) => {
+                let value = self.expression_text(value)?;
+                self.set_text(path, *property, value.as_str())
+            }
+            Statement::Emit(signal, given) => {
+                let inner = self.given_text(given.as_slice())?;
+                self.emit_text(*signal, inner.as_str())
+            }
+            Statement::Call(path, method, given) => {
+                let inner = self.given_text(given.as_slice())?;
+                self.call_text(path, *method, inner.as_str())
+            }
+            _ => self.statement_text(statement),
+        }
+    }
+
+    /// Arguments as they are written.
+    fn given_text(&self, given: &[Expr<MetaPath>]) -> Result<String, AllocError> {
+        let mut text = String::from_str(self.source.alloc, "(")?;
+        for (place, argument) in given.iter().enumerate() {
+            text.push_str(if place == 0 { "" } else { ", " })?;
+            let argument = self.expression_text(argument)?;
+            text.push_str(argument.as_str())?;
+        }
+        text.push_str(")")?;
+        Ok(text)
+    }
+
+    /// `set path.p = VALUE;`
+    fn set_text(
+        &self,
+        path: &MetaPath,
+        property: usize,
+        value: &str,
+    ) -> Result<String, AllocError> {
         let alloc = self.source.alloc;
         let path = self.path_text(path)?;
         let name = property_text(alloc, self.source.meta, path.class, property)?;
         let object = path.text;
-        format!(in alloc; "set {object}.{name} = ..;")
+        format!(in alloc; "set {object}.{name} = {value};")
+    }
+
+    /// `emit s(..);`
+    fn emit_text(&self, signal: usize, inner: &str) -> Result<String, AllocError> {
+        let alloc = self.source.alloc;
+        let name = method_text(alloc, self.source.meta, Some(self.class), signal)?;
+        format!(in alloc; "emit {name}{inner};")
     }
 
     /// `call path.m(..);`
-    fn call_text(
-        &self,
-        path: &MetaPath,
-        method: usize,
-        is_empty: bool,
-    ) -> Result<String, AllocError> {
+    fn call_text(&self, path: &MetaPath, method: usize, inner: &str) -> Result<String, AllocError> {
         let alloc = self.source.alloc;
         let path = self.path_text(path)?;
         let name = method_text(alloc, self.source.meta, path.class, method)?;
         let object = path.text;
-        let inner = inner_text(is_empty);
         format!(in alloc; "call {object}.{name}{inner};")
     }
 
     /// The path as it is written.
-    fn path_text(&self, path: &MetaPath) -> Result<Spelled, AllocError> {
+    pub fn path_text(&self, path: &MetaPath) -> Result<Spelled, AllocError> {
         let alloc = self.source.alloc;
         let mut spelled = self.root_text(path.root)?;
         for step in path.steps.as_slice() {
@@ -138,7 +174,7 @@ impl<'s> BodyContext<'s> {
     }
 
     /// The name of the parameter at this place.
-    fn parameter_text(&self, parameter: usize) -> Result<String, AllocError> {
+    pub fn parameter_text(&self, parameter: usize) -> Result<String, AllocError> {
         if let Some(slot) = self.slot {
             if let Some(found) = slot.parameters.get(parameter) {
                 if let Some(name) = &found.name {

@@ -15,7 +15,7 @@ use thiserror::Error;
 #[derive(Clone, Copy, Debug, Error)]
 pub enum ToolFault {
     /// The words are none that there are.
-    #[error("usage: qt_tools [--wide] graph [--json] [--places] [--class CLASS,..] [--from MEMBER] < PROGRAM, import [--only CLASS,..] [--lean] [--strict] [--effects] < TEXTS, [--wide] session [--tap|--record] [--unchecked N] [--steps M] < TEXTS, [--wide] verdict [--json|--sarif|--junit|--accept-all|--rules] [--error RULE,..] [--warning RULE,..] [--off RULE,..] [--places] [--accept|--baseline] [--program NAME] [--certificate NAME] < TEXTS, view --plain|--color|--mermaid|--html < TRACE, or [--wide] witness < PROGRAM")]
+    #[error("usage: qt_tools [--wide] graph [--json] [--places] [--class CLASS,..] [--from MEMBER] < PROGRAM, import [--only CLASS,..] [--lean] [--strict] [--effects] < TEXTS, [--wide] session [--tap|--record] [--settling|--unchecked N] [--steps M] < TEXTS, [--wide] verdict [--json|--sarif|--junit|--accept-all|--rules] [--error RULE,..] [--warning RULE,..] [--off RULE,..] [--places] [--accept|--baseline] [--program NAME] [--certificate NAME] < TEXTS, view --plain|--color|--mermaid|--html < TRACE, or [--wide] witness < PROGRAM")]
     Usage,
     /// The program is refused, with the number that `gammonfig` gives.
     #[error("the program is refused with {0}: `gammonfig meta` says where")]
@@ -44,6 +44,9 @@ pub enum ToolFault {
     /// The program has a certificate.
     #[error("the program has a certificate: no run of it ends so")]
     Certified,
+    /// The program has a settling certificate.
+    #[error("the program has a settling certificate: its circles come to rest, and no script of it nests without end")]
+    Settles,
     /// Events of the script went otherwise than is expected.
     #[error("events went otherwise than is expected")]
     Otherwise,
@@ -110,7 +113,8 @@ impl ToolFault {
             | ToolFault::Invalid(_)
             | ToolFault::Found
             | ToolFault::NoWitness
-            | ToolFault::Certified => 3,
+            | ToolFault::Certified
+            | ToolFault::Settles => 3,
             ToolFault::Otherwise => 5,
             _ => 1,
         }

@@ -17,6 +17,7 @@ pub fn witness(rt: &HostRuntime, limits: Limits, words: &[&str]) -> Result<(), T
         SearchOutcome::Found(script) => script,
         SearchOutcome::NotFound => return Err(ToolFault::NoWitness),
         SearchOutcome::Certified => return Err(ToolFault::Certified),
+        SearchOutcome::Settles => return Err(ToolFault::Settles),
     };
     write(rt, script.as_str())
 }

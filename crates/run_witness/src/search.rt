@@ -1,7 +1,9 @@
 //! The search for a script, and what of it is needed.
 
-ghost use Rattle.std.specs.Prelude.{IfOk};
-ghost use Rattle.run_witness.specs.Shows.{IsCertified, IsSearchOutcome, Shows};
+ghost use Rattle.std.specs.Prelude.{IfOk, IsTrue};
+ghost use Rattle.settling.specs.declared.certificate.SettlingCertificate.{SettlingCertificate};
+ghost use Rattle.settling.specs.Valid.{IsValid};
+ghost use Rattle.run_witness.specs.Shows.{IsCertified, IsSettling, IsSearchOutcome, Shows};
 
 use crate::event_subset::{EventRange, EventSubset};
 use crate::events::{push_begins, push_joints};
@@ -12,6 +14,7 @@ use effect_scan::Node;
 use meta_model::Meta;
 use program_commands::{Refusal, load_program};
 use rank_make::{Why, make};
+use settling_make::Why as Unmade;
 use std::alloc::{AllocError, Global};
 use thiserror::Error;
 use trace_tool::FittingNatives;
@@ -40,6 +43,8 @@ pub enum SearchOutcome {
     NotFound,
     /// The program has a certificate, so that no run of it ends so.
     Certified,
+    /// The program has a settling certificate: its cycles come to rest.
+    Settles,
 }
 
 /// Why nothing was sought.
@@ -81,14 +86,19 @@ pub fn find_witness<N: FittingNatives>(
     ensures { let heads = N.heads natives.now in
         IfOk result (IsSearchOutcome
         (λ script. Shows limits heads (N.gives natives.now) program.now script 1000000)
-        (IsCertified limits program.now)) }
+        (IsCertified limits program.now)
+        (IsSettling limits program.now)) }
 {
     let meta = load_program(alloc, limits, program)?;
     match make(alloc, &meta) {
         Ok(_) => Ok(SearchOutcome::Certified),
         Err(Why::Memory) => Err(WitnessFault::Memory),
         Err(Why::Wire(_) | Why::BodyType(_)) => Ok(SearchOutcome::NotFound),
-        Err(Why::Cycle(nodes) | Why::DestroyPath(nodes) | Why::TooHigh(nodes)) => {
+        Err(Why::Cycle(nodes)) => {
+            // A program without cycles has a settling certificate only where it has one.
+            if settles(alloc, &meta)? {
+                return Ok(SearchOutcome::Settles);
+            }
             let trials = Trials {
                 limits,
                 program,
@@ -97,6 +107,26 @@ pub fn find_witness<N: FittingNatives>(
             let sought = trials.search(alloc, &meta, nodes.as_slice())?;
             Ok(sought)
         }
+        Err(Why::DestroyPath(nodes) | Why::TooHigh(nodes)) => {
+            let trials = Trials {
+                limits,
+                program,
+                natives,
+            };
+            let sought = trials.search(alloc, &meta, nodes.as_slice())?;
+            Ok(sought)
+        }
+    }
+}
+
+/// Whether a settling certificate is made of the program. Its error is that memory was refused.
+fn settles(alloc: Global, meta: &Meta) -> Result<bool, AllocError>
+    ensures { IfOk result (λ settles. IsTrue settles → (certificate : SettlingCertificate) × IsValid meta.now certificate) }
+{
+    match settling_make::make(alloc, meta) {
+        Ok(_) => Ok(true),
+        Err(Unmade::Memory) => Err(AllocError),
+        Err(_) => Ok(false),
     }
 }
 
@@ -112,7 +142,8 @@ impl<N: FittingNatives> Trials<'_, N> {
             IfOk result (IsSearchOutcome
             (λ script. Shows self.now.limits heads (N.gives self.now.natives.now)
             self.now.program.now script 1000000)
-            (IsCertified self.now.limits self.now.program.now)) }
+            (IsCertified self.now.limits self.now.program.now)
+            (IsSettling self.now.limits self.now.program.now)) }
     {
         let mut events = Vec::new(alloc);
         push_stage(alloc, meta, &mut events)?;
@@ -136,6 +167,7 @@ impl<N: FittingNatives> Trials<'_, N> {
             (λ script. Shows self.now.limits heads (N.gives self.now.natives.now)
             self.now.program.now script 1000000)
             (IsCertified self.now.limits self.now.program.now)
+            (IsSettling self.now.limits self.now.program.now)
             result }
     {
         if self.ends_so(alloc, script.as_bytes(), STEPS) {

@@ -11,9 +11,9 @@ use Rattle.effect_scan.specs.{declared.node.Node.{Node}, declared.node.Member.Th
 use Rattle.rank_check.proofs.Elements.{place_of}
 use Rattle.trace_entries.specs.{declared.fault.Fault.{Fault}}
 use Rattle.machine_state.specs.State.{State, Activation, Body, Emit, Update, Destroy}
-use Rattle.machine_rules.{specs.Natives.{NativeAnswers}, specs.Operations.{Write}, specs.Faults.{WritesDeep}, proofs.Doing.{Doing, doing}, proofs.Dying.{lives-not-dead}, proofs.Keeps.{lives-of-class}}
+use Rattle.machine_rules.{specs.Good.{IsWell}, specs.Natives.{NativeAnswers}, specs.Operations.{Write}, specs.Faults.{WritesDeep}, proofs.Doing.{Doing, doing}, proofs.Dying.{lives-not-dead}, proofs.Keeps.{lives-of-class}}
 use Rattle.settling.specs.{declared.certificate.SettlingCertificate.{SettlingCertificate}, Levels.{StacksAreShallow}, Sets.{IsIn}, Valid.{IsValid}}
-use Rattle.object_machine.{specs.Causes.{Brings, StopsFor, spent, short as of_memory, brings, lacks_value, writes_ill, binds_ill, goes_ill, goes_fatal, binds_loop, writes_deep, goes_deep}, specs.Checked.{no_rule, no_memory}, proofs.CheckedRuns.{Invariant.{AreClasses}, Nodes.{body-named}, Kept.{loops-none}}}
+use Rattle.object_machine.{specs.Causes.{Brings, StopsFor, spent, short as of_memory, brings, lacks_value, writes_ill, binds_ill, goes_ill, goes_fatal, binds_loop, writes_deep, goes_deep}, specs.Checked.{no_rule, no_memory}, specs.Runs.{Follows}, proofs.CheckedRuns.{Invariant.{AreClasses}, Nodes.{body-named}, Kept.{loops-none}}}
 use Rattle.object_machine.proofs.CheckedRuns.Leading.{leads-drawn, does-led}
 use Rattle.object_machine.proofs.CheckedRuns.Staying.{Covered}
 use Rattle.settled_runs.{specs.Levels.{Carried, Level, AreCosts, AreLevels, IsPlaceIn}, specs.Claims.{most_deep, EachIsShallow, MayStop, limit, ill, too_deep, StopsForFew, IsActive, CarriesOne, EachCarriesOne, ChangesToCarried, EachChangesToCarried}, proofs.Chains.{chains-end}, proofs.Depth.{levels-shallow}, proofs.Edges.{set-costs, line-after}, proofs.Invariant.{MethodStands, Stands, Stacked, Holds}, proofs.Memberships.{source-above}, proofs.OneValue.{carry-one}, proofs.Pushing.{StandsIn, free, bound, update-outside}, proofs.Stacks.{levels-of, as-many, no-deeper}, proofs.Carrying.{KeepsPlaces}, proofs.Steps.{Kept, followed, places-kept, run-kept}}
@@ -124,6 +124,14 @@ module _ {p : Loaded} {certificate : SettlingCertificate} (sound : IsSound p) (v
         ]
       ]
 
+  -- what follows changes places of active sets to what these carry
+  pub changes-followed : (natives : NativeAnswers) {s t : State} {next : List Event} → Kept p cost certificate s → IsWell p s t → Follows p natives s t next → ChangesToCarried p certificate s t
+  changes-followed natives {s} {t} kept well follows =
+      elim (places-kept sound valid cost costs natives kept well follows) [
+        | inl empty ↦ λ k a v place in_a is_a there other. let none = place_of [] a (subst (λ (l : List Activation). Contains l a) empty in_a) in absurd (none-some a none.1)
+        | inr keeps ↦ changes-to t kept.classes kept.held keeps.1 keeps.0
+      ]
+
 -- ---- every run
 
 module _ (shallow : StacksAreShallow) (natives : NativeAnswers) {p : Loaded} {certificate : SettlingCertificate} (sound : IsSound p) (valid : IsValid p certificate) (cost : ℕ → ℕ) (costs : AreCosts p certificate cost) {s : State} (kept : Kept p cost certificate s) where
@@ -172,9 +180,4 @@ each_carries_one natives p certificate s depth steps left taken answers sound va
 pub each_changes_to_carried : (natives : NativeAnswers) → EachChangesToCarried natives
 each_changes_to_carried natives p certificate s depth steps left taken answers sound valid run t next follows well =
     let costs = set-costs valid in
-    let kept = run-kept sound valid costs.0 costs.1 natives run in
-    by_stack costs.0 costs.1 kept (places-kept sound valid costs.0 costs.1 natives kept well follows)
-  where
-    by_stack : (cost : ℕ → ℕ) → AreCosts p certificate cost → (kept : Kept p cost certificate s) → (s.stack ≡ []) ⊎ (KeepsPlaces p kept.classes s.objects t.objects (kept.held).levels × Covered p kept.classes t) → ChangesToCarried p certificate s t
-    by_stack cost costs kept (inl empty) = λ k a v place in_a is_a there other. let none = place_of [] a (subst (λ (l : List Activation). Contains l a) empty in_a) in absurd (none-some a none.1)
-    by_stack cost costs kept (inr keeps) = changes-to sound valid cost costs t kept.classes kept.held keeps.1 keeps.0
+    changes-followed sound valid costs.0 costs.1 natives (run-kept sound valid costs.0 costs.1 natives run) well follows

@@ -8,9 +8,9 @@ use Rattle.trace_entries.specs.{declared.fault.Answer.{Answer}, declared.fault.F
 use Rattle.machine_state.specs.{State.{State, Activation, Body, Emit, Update, Destroy}, Worlds.{at, untouched}}
 use Rattle.machine_rules.specs.{Good.{IsWell, IsGood, Spares, IsAcyclic}, Natives.{NativeAnswers}, Rules.{Rule}}
 use Rattle.settling.specs.{declared.certificate.SettlingCertificate.{SettlingCertificate}, Levels.{StacksAreShallow}, Valid.{IsValid}}
-use Rattle.object_machine.{specs.Causes.{Brings, StopsFor, spent, short as of_memory, brings, lacks_value, writes_ill, binds_ill, goes_ill, goes_fatal, binds_loop, writes_deep, goes_deep}, specs.Checked.{IsLimit, no_rule, no_memory}, specs.CheckedLaws.{IsFaultless}, specs.Runs.{Run, Follows, by_rule, by_event}, specs.Takes.{Takes as Taking}, proofs.Standing.{Invariant}, proofs.Preservation.{after-rule, after-event}}
+use Rattle.object_machine.{specs.Causes.{Brings, StopsFor, spent, short as of_memory, brings, lacks_value, writes_ill, binds_ill, goes_ill, goes_fatal, binds_loop, writes_deep, goes_deep}, specs.Checked.{IsLimit, no_rule, no_memory}, specs.CheckedLaws.{IsFaultless}, specs.Runs.{Run, Each, Follows, by_rule, by_event}, specs.Takes.{Takes as Taking}, proofs.Standing.{Invariant}, proofs.Preservation.{after-rule, after-event}}
 use Rattle.object_machine.proofs.CheckedRuns.{Invariant.{TopStands}, Promised.{AllIsPromised}, Binding.{binds-fit}, Sites.{ChainsEnd}, Staying.{same-count}, Kept.{start-invariant, start-covered, lacks-none, loops-none}, Arguments.{takes-pushes}, Steps.{Known, fits-known, rule-known, rule-agree, event-agree, rule-well, event-well, each-step, steps-stand}}
-use Rattle.settled_runs.{specs.Levels.{Level, AreCosts}, specs.Claims.{most_deep, EachRunIsFaultless, StopsAtLimits}, proofs.Chains.{chains-end}, proofs.Claims.{writes-room}, proofs.Edges.{set-costs}, proofs.Invariant.{Stacked, Holds}, proofs.Stacks.{no-deeper}, proofs.Rules.{rule-held}, proofs.Events.{takes-held}, proofs.Steps.{idle-taken, no-body-idle}}
+use Rattle.settled_runs.{specs.Levels.{Level, AreCosts}, specs.Claims.{most_deep, IsReached, EachRunIsFaultless, StopsAtLimits, IsCarried}, proofs.Chains.{chains-end}, proofs.Claims.{writes-room, carries-one, changes-followed}, proofs.Edges.{set-costs}, proofs.Invariant.{Stacked, Holds}, proofs.Stacks.{no-deeper}, proofs.Rules.{rule-held}, proofs.Events.{takes-held}, proofs.Steps.{Kept, idle-taken, no-body-idle}}
 
 -- what is on top of a stack stands
 top-stands : (p : Loaded) (cost : ℕ → ℕ) {certificate : SettlingCertificate} (classes : ℕ → Option ℕ) (objects : List Object) (stack : List Activation) (levels : List (Level certificate)) → Stacked p cost classes objects stack levels → TopStands p objects stack
@@ -104,6 +104,16 @@ module _ {p : Loaded} {certificate : SettlingCertificate} (sound : IsSound p) (v
   step-stood : {s t : State} {next : List Event} → Stood p cost certificate s → Follows p natives s t next → Stood p cost certificate t
   step-stood {s} {t} stood follows = (follows-stood {s = s} {t = t} stood follows).stood
 
+  -- sets carry one value, and places change to it
+  carried : {s t : State} {next : List Event} → Stood p cost certificate s → Follows p natives s t next → IsCarried p certificate s t
+  carried {s} {t} stood follows =
+      let f = follows-stood {s = s} {t = t} stood follows in
+      let kept : Kept p cost certificate s = record { classes = stood.classes; held = stood.held; up = stood.up } in
+      record {
+        carries = carries-one sound valid cost costs (f.stood).classes (f.stood).held;
+        changes = changes-followed sound valid cost costs natives {s = s} {t = t} kept f.well follows;
+      }
+
   -- where a run from the beginning comes to
   come-stood : {steps left : ℕ} {s : State} {taken : List Event} {answers : List Answer} → Run p natives (at (untouched steps) []) steps taken answers s left → Stood p cost certificate s
   come-stood {steps = steps} r =
@@ -156,3 +166,12 @@ pub stops_at_limits : StacksAreShallow → (accepts : Takes) (natives : NativeAn
 stops_at_limits shallow accepts natives p certificate s left depth rules next fault reached stops =
     let costs = set-costs reached.valid in
     by-fault reached.sound reached.valid costs.0 costs.1 shallow accepts natives reached.promises (come-stood reached.sound reached.valid costs.0 costs.1 shallow accepts natives reached.promises reached.run) stops
+
+pub each_run_is_carried : StacksAreShallow → (accepts : Takes) (natives : NativeAnswers) (p : Loaded) (certificate : SettlingCertificate) (s t : State) (left after : ℕ) (events : List Event) (answers : List Answer) →
+    IsReached accepts natives p certificate s left → (run : Run p natives s left events answers t after) → Each (IsCarried p certificate) run
+each_run_is_carried shallow accepts natives p certificate s t left after events answers reached run =
+    let costs = set-costs reached.valid in
+    each-step natives (Stood p costs.0 certificate) (IsCarried p certificate)
+    (λ u v next stands follows. carried reached.sound reached.valid costs.0 costs.1 shallow accepts natives reached.promises {s = u} {t = v} stands follows)
+    (λ u v next stands follows. step-stood reached.sound reached.valid costs.0 costs.1 shallow accepts natives reached.promises {s = u} {t = v} stands follows)
+    run (come-stood reached.sound reached.valid costs.0 costs.1 shallow accepts natives reached.promises reached.run)

@@ -26,3 +26,4 @@ pub mod Chains
 pub mod Steps
 pub mod Claims
 pub mod Faultless
+pub mod Claiming

@@ -61,11 +61,15 @@ EachRunIsFaultless accepts natives =
     IsReached accepts natives p certificate s left → (run : Run p natives s left events answers t after) →
     Each (λ u v. IsFaultless p (most_deep certificate v) u v) run
 
--- a run stops for a limit, or because its depth is less than that
+-- no rule is left, or memory was refused; or the depth is less than that
+abbrev pub IsLimitAt : SettlingCertificate → (depth : ℕ) → State → Fault → Type 0
+IsLimitAt certificate depth s fault = IsLimit fault ⊎ ((fault ≡ TooDeep) × (depth < most_deep certificate s))
+
+-- a run stops for nothing else
 abbrev pub StopsAtLimits : Takes → NativeAnswers → Type 0
 StopsAtLimits accepts natives =
     (p : Loaded) (certificate : SettlingCertificate) (s : State) (left depth rules : ℕ) (next : List Event) (fault : Fault) →
-    IsReached accepts natives p certificate s left → StopsFor p natives depth s rules next fault → IsLimit fault ⊎ ((fault ≡ TooDeep) × (depth < most_deep certificate s))
+    IsReached accepts natives p certificate s left → StopsFor p natives depth s rules next fault → IsLimitAt certificate depth s fault
 
 -- ---- values
 
@@ -110,3 +114,10 @@ ChangesToCarried p certificate s t =
 abbrev pub EachChangesToCarried : NativeAnswers → Type 0
 EachChangesToCarried natives = InEachState natives (λ p certificate depth left s.
     (t : State) (next : List Event) → Follows p natives s t next → IsWell p s t → ChangesToCarried p certificate s t)
+
+-- ---- .. in each step
+
+-- afterwards activations of one set carry one value, and what came to read otherwise has it
+pub record IsCarried (p : Loaded) (certificate : SettlingCertificate) (s t : State) : Type 0 where
+  pub carries : CarriesOne p certificate t
+  pub changes : ChangesToCarried p certificate s t

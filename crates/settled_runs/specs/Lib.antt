@@ -4,3 +4,4 @@ pub mod Written
 pub mod Deaths
 pub mod Handed
 pub mod Claims
+pub mod Machine

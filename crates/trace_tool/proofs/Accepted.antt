@@ -1,16 +1,18 @@
 -- Where `run` accepts, it refuses nothing unless memory runs out, and runs what it accepts.
-use Rattle.std.proofs.Common.{◌≡◌, ◌≢◌, ℕ, ◌⊎◌, inl, inr, List, None, Result, Ok, Err, refl, ap, sym, ◌∙◌}
+use Rattle.std.proofs.Common.{◌≡◌, ◌≢◌, ℕ, ◌⊎◌, inl, inr, List, None, Result, Ok, Err, refl, ap, sym, ◌∙◌, subst}
 use Rattle.certificate_lang.specs.declared.certificate.Certificate.{Certificate}
 use Rattle.meta_model.specs.Loaded.{Loaded}
 use Rattle.native_slots.{specs.declared.head.NativeHead.{NativeHead}, specs.declared.misfit.Misfit.{Misfit}, specs.Misfits.{Fits}, proofs.Telling.{one_misfit}}
 use Rattle.rank_check.specs.Checks.{Checking}
+use Rattle.settling.specs.{Checks.{Checking as Settled}, declared.certificate.SettlingCertificate.{SettlingCertificate}}
 use Rattle.script_lang.{specs.Reads.{ReadsScript}, specs.declared.event.Event.{Event}, specs.declared.fault.ScriptFault.{ScriptFault}, proofs.OneAnswer.{one_result}}
 use Rattle.script_lang.specs.declared.fault.ScriptFault.TheVariants as of_script
 use Rattle.machine_rules.specs.Natives.{NativeAnswers}
 use Rattle.program_commands.{specs.declared.refusal.Refusal.{Refusal}, specs.Refusals.{refusal_number, script_number, memory_line}, proofs.Once.{OneOf, one_first, one_is, goes_with, loads_once, certified_once, check_once, check_short, never_denied, IsShortCheck, IsShortResult, never_short, same_short, short_refusal}}
 use Rattle.program_commands.specs.declared.refusal.Refusal.TheVariants as refusal
+use Rattle.program_commands.proofs.SettlingOnce.{IsShortCheck as IsShortSettling, settling_once, settling_check_once, settling_short}
 use Rattle.class_lang.specs.declared.size.Limits.{Limits}
-use Rattle.trace_tool.specs.{declared.any_machine.outcome.Outcome.{Outcome}, Outcomes.{IsShort, answer_of}, Commands.{Accepting, Accepts, AcceptedComesTo, MayRun, RunComesTo, refused}}
+use Rattle.trace_tool.specs.{declared.any_machine.outcome.Outcome.{Outcome}, Outcomes.{IsShort, answer_of}, Commands.{Accepting, Accepts, AcceptedComesTo, AcceptingSettling, AcceptsSettling, AcceptedSettlingComesTo, MayRun, RunComesTo, SettlingRunComesTo, refused}}
 use Rattle.trace_tool.proofs.Preparing.{told-status}
 use Rattle.object_machine.specs.Seen.{Seen}
 
@@ -43,11 +45,23 @@ NeverShort r = ⊥
 pub fit_once : (heads : List NativeHead) (p : Loaded) → OneOf NeverShort (Fits heads p)
 fit_once heads p a b h k = inr (inr (one_misfit heads p a b h k))
 
+-- the closures don't fit the program that was checked
+pub unfit : (heads : List NativeHead) (misfit : Misfit) {asked loaded : Loaded} → asked ≡ loaded → Fits heads asked (Err misfit) → Fits heads loaded (Err misfit)
+unfit heads misfit same fit = subst (λ (p : Loaded). Fits heads p (Err misfit)) same fit
+
 pub accepting_once : (limits : Limits) (heads : List NativeHead) (program certificate script : List ℕ) → OneOf IsShortResult (Accepting limits heads program certificate script)
 accepting_once limits heads program certificate script =
     one_first IsShortResult IsShortResult (certified_once limits program certificate) same_short never_short
     (λ both. one_first IsShortScript IsShortResult (script_once script) script_short (λ x e. cc e)
     (λ events. one_first IsShortCheck IsShortResult (check_once both.0 both.1) check_short never_denied
+    (λ checked. one_first NeverShort IsShortResult (fit_once heads checked.program) (λ fault s. absurd s) (λ x s. s)
+    (λ fit. one_is IsShortResult (Ok (checked, events))))))
+
+pub accepting_settling_once : (limits : Limits) (heads : List NativeHead) (program certificate script : List ℕ) → OneOf IsShortResult (AcceptingSettling limits heads program certificate script)
+accepting_settling_once limits heads program certificate script =
+    one_first IsShortResult IsShortResult (settling_once limits program certificate) same_short never_short
+    (λ both. one_first IsShortScript IsShortResult (script_once script) script_short (λ x e. cc e)
+    (λ events. one_first IsShortSettling IsShortResult (settling_check_once both.0 both.1) settling_short (λ x e. cc e)
     (λ checked. one_first NeverShort IsShortResult (fit_once heads checked.program) (λ fault s. absurd s) (λ x s. s)
     (λ fit. one_is IsShortResult (Ok (checked, events))))))
 
@@ -73,6 +87,16 @@ pub accepted_comes : {N : Type 0} {limits : Limits} {gives : N → NativeAnswers
 accepted_comes {limits = limits} {heads = heads} {program = program} {certificate = certificate} {script = script} {loaded = loaded} {read = read} {events = events} {outcome = outcome} accepts comes =
     let checked : Checking = record { program = loaded; certificate = read } in
     elim (goes_with IsShortResult IsShort (accepting_once limits heads program certificate script) short_refused never_short (checked, events) accepts comes) [
+      | inl short ↦ inr (short_answer outcome short)
+      | inr runs ↦ inl runs
+    ]
+
+pub accepted_settling_comes : {N : Type 0} {limits : Limits} {gives : N → NativeAnswers} {heads : List NativeHead} {natives : N} {program certificate script : List ℕ} {loaded : Loaded} {read : SettlingCertificate} {events : List Event} {steps : ℕ} {outcome : Outcome (Seen N)} →
+    AcceptsSettling limits heads program certificate script loaded read events → SettlingRunComesTo limits gives heads natives program certificate script steps outcome →
+    AcceptedSettlingComesTo gives natives loaded read events steps outcome
+accepted_settling_comes {limits = limits} {heads = heads} {program = program} {certificate = certificate} {script = script} {loaded = loaded} {read = read} {events = events} {outcome = outcome} accepts comes =
+    let checked : Settled = record { program = loaded; certificate = read } in
+    elim (goes_with IsShortResult IsShort (accepting_settling_once limits heads program certificate script) short_refused never_short (checked, events) accepts comes) [
       | inl short ↦ inr (short_answer outcome short)
       | inr runs ↦ inl runs
     ]

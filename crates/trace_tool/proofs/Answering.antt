@@ -5,7 +5,11 @@ use Rattle.meta_model.specs.Loaded.{Loaded}
 use Rattle.machine_rules.specs.Natives.{NativeAnswers}
 use Rattle.object_machine.specs.Checked.{IsLimit, StopsAtLimit}
 use Rattle.object_machine.specs.Claims.{Claims}
-use Rattle.object_machine.specs.Seen.{Seen, begun}
+use Rattle.object_machine.specs.Seen.{Seen, RunsAll, begun}
+use Rattle.script_lang.specs.declared.event.Event.{Event}
+use Rattle.settling.specs.declared.certificate.SettlingCertificate.{SettlingCertificate}
+use Rattle.machine_state.specs.Worlds.{at}
+use Rattle.settled_runs.specs.{Claims.{IsLimitAt}, Machine.{StopsAtLimitAlone}}
 use Rattle.trace_entries.specs.declared.fault.Fault.{Fault}
 use Rattle.command_lines.specs.Cut.{AreTexts}
 
@@ -17,6 +21,16 @@ ends_at_limit {N} {before = before} (Err fault) is stops =
     elim stops [
       | inl limit ↦ limit
       | inr stopped ↦ let no : true ≡ false = sym stopped ∙ ap (λ (m : Seen N). m.stopped) is in absurd (cc no)
+    ]
+
+-- .. and one of a program with a settling certificate for no other than that, or its depth
+pub ends_settling : {N : Type 0} (gives : N → NativeAnswers) (certificate : SettlingCertificate) (loaded : Loaded) (natives : N) (depth steps : ℕ) (events : List Event) (ended : Result (Unit {0}) Fault) (after : Seen N) →
+    RunsAll gives (begun loaded natives depth steps) events ended after → StopsAtLimitAlone gives certificate (begun loaded natives depth steps) → IfErr ended (IsLimitAt certificate depth (at after.world []))
+ends_settling gives certificate loaded natives depth steps events (Ok done) after all stops = tt
+ends_settling gives certificate loaded natives depth steps events (Err fault) after all stops =
+    elim all [
+      | inl halts ↦ stops events fault after halts
+      | inr stays ↦ let no : false ≡ true = stays.stopped in absurd (cc no)
     ]
 
 -- the claims on a machine that is known

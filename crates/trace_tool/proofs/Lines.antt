@@ -35,6 +35,7 @@ refusal_memory (refusal.Loading fault) is = numberless 2 (codes "refused ") _ (o
 refusal_memory (refusal.Certificate fault) is = numberless 2 (codes "refused ") _ (omega arith) is
 refusal_memory (refusal.Script fault) is = script_memory fault is
 refusal_memory (refusal.Check w) is = numberless 3 (codes "no ") _ (omega arith) is
+refusal_memory (refusal.Unsettled reason) is = numberless 3 (codes "no ") _ (omega arith) is
 refusal_memory (refusal.Natives fault) is = absurd (omega (arith, is))
 
 reason_memory : (p : Loaded) (w : Why) → reason_status w ≡ 1 → reason_line p w ≡ memory_line
@@ -48,7 +49,6 @@ reason_memory p why.Memory is = refl
 settling_memory : (o : SettlingOutcome) → settling_status o ≡ 1 → settling_text o ≡ memory_line
 settling_memory (settling.Certificate p text) is = absurd (omega (arith, is))
 settling_memory (settling.Uncertified p w) is = reason_memory p w is
-settling_memory (settling.Invalid reason) is = numberless 3 (codes "no ") _ (omega arith) is
 settling_memory (settling.Valid checked) is = absurd (omega (arith, is))
 
 told_memory : (o : ProgramOutcome) → program_status o ≡ 1 → program_text o ≡ memory_line

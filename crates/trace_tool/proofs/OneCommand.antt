@@ -7,8 +7,8 @@ use Rattle.program_commands.{specs.Commands.{IsSameOutcome as IsSameOfProgram}, 
 use Rattle.program_commands.specs.declared.outcome.Outcome.TheVariants as of_program
 use Rattle.program_commands.specs.declared.settling_commands.outcome.SettlingOutcome.TheVariants as settling
 use Rattle.class_lang.specs.declared.size.Limits.{Limits}
-use Rattle.command_lines.{specs.Words.{IsNumber, IsLimit, IsCommand, IsLineOf}, specs.declared.input.InputFault.{InputFault}, specs.declared.usage.UsageFault.TheVariants.{Words, TooLarge, Texts}, specs.declared.words.Command.{Command}, specs.declared.words.Command.TheVariants.{Meta, Certify, Check, CertifySettling, CheckSettling, Run, RunUnchecked}, specs.declared.words.CommandLine.{CommandLine}, proofs.Saying.{after_first, not_wide}, proofs.Partings.{texts_once}}
-use Rattle.trace_tool.{specs.Outcomes.{IsShort}, specs.declared.any_machine.outcome.Outcome.{Outcome}, specs.declared.any_machine.outcome.Outcome.TheVariants.{Program}, specs.Commands.{Says, Cuts, Does, IsOfProgram, limits_of}, specs.Laws.{IsSameOutcome, OneCommandOutcome}, proofs.OneRun.{OneAs, same_first, one_run_outcome, one_unchecked_outcome}}
+use Rattle.command_lines.{specs.Words.{IsNumber, IsLimit, IsCommand, IsLineOf}, specs.declared.input.InputFault.{InputFault}, specs.declared.usage.UsageFault.TheVariants.{Words, TooLarge, Texts}, specs.declared.words.Command.{Command}, specs.declared.words.Command.TheVariants.{Meta, Certify, Check, CertifySettling, CheckSettling, Run, RunSettling, RunUnchecked}, specs.declared.words.CommandLine.{CommandLine}, specs.declared.words.Options.{Options}, proofs.Saying.{after_first, not_wide}, proofs.Partings.{texts_once}}
+use Rattle.trace_tool.{specs.Outcomes.{IsShort}, specs.declared.any_machine.outcome.Outcome.{Outcome}, specs.declared.any_machine.outcome.Outcome.TheVariants.{Program}, specs.Commands.{Says, Cuts, Does, IsOfProgram, limits_of}, specs.Laws.{IsSameOutcome, OneCommandOutcome}, proofs.OneRun.{OneAs, same_first, one_run_outcome, one_settling_run_outcome, one_unchecked_outcome}}
 use Rattle.texts.specs.Numerals.{value_of}
 use Rattle.object_machine.specs.Seen.{Seen}
 
@@ -37,71 +37,134 @@ limit-other {words} {options} {word} are (inr x) =
     let no : codes "--unchecked" ≡ codes "--steps" = cc both in
     cc no
 
-command-once : (words : List (List ℕ)) (c d : Command) → IsCommand words c → IsCommand words d → c ≡ d
-command-once words Meta Meta x y = refl
-command-once words Meta Certify x y = let no : codes "meta" ∷ [] ≡ codes "certify" ∷ [] = sym x ∙ y in absurd (cc no)
-command-once words Meta Check x y = let no : codes "meta" ∷ [] ≡ codes "check" ∷ [] = sym x ∙ y in absurd (cc no)
-command-once words Meta CertifySettling x y = let no : codes "meta" ∷ [] ≡ codes "certify" ∷ codes "--settling" ∷ [] = sym x ∙ y in absurd (cc no)
-command-once words Meta CheckSettling x y = let no : codes "meta" ∷ [] ≡ codes "check" ∷ codes "--settling" ∷ [] = sym x ∙ y in absurd (cc no)
-command-once words Meta (Run steps) x y = let no : codes "meta" ∷ [] ≡ codes "run" ∷ y.options = sym x ∙ y.are in absurd (cc no)
-command-once words Meta (RunUnchecked options) x y = let no : codes "meta" ∷ [] ≡ codes "run" ∷ codes "--unchecked" ∷ y.word ∷ y.options = sym x ∙ y.are in absurd (cc no)
-command-once words Certify Meta x y = let no : codes "certify" ∷ [] ≡ codes "meta" ∷ [] = sym x ∙ y in absurd (cc no)
-command-once words Certify Certify x y = refl
-command-once words Certify Check x y = let no : codes "certify" ∷ [] ≡ codes "check" ∷ [] = sym x ∙ y in absurd (cc no)
-command-once words Certify CertifySettling x y = let no : codes "certify" ∷ [] ≡ codes "certify" ∷ codes "--settling" ∷ [] = sym x ∙ y in absurd (cc no)
-command-once words Certify CheckSettling x y = let no : codes "certify" ∷ [] ≡ codes "check" ∷ codes "--settling" ∷ [] = sym x ∙ y in absurd (cc no)
-command-once words Certify (Run steps) x y = let no : codes "certify" ∷ [] ≡ codes "run" ∷ y.options = sym x ∙ y.are in absurd (cc no)
-command-once words Certify (RunUnchecked options) x y = let no : codes "certify" ∷ [] ≡ codes "run" ∷ codes "--unchecked" ∷ y.word ∷ y.options = sym x ∙ y.are in absurd (cc no)
-command-once words Check Meta x y = let no : codes "check" ∷ [] ≡ codes "meta" ∷ [] = sym x ∙ y in absurd (cc no)
-command-once words Check Certify x y = let no : codes "check" ∷ [] ≡ codes "certify" ∷ [] = sym x ∙ y in absurd (cc no)
-command-once words Check Check x y = refl
-command-once words Check CertifySettling x y = let no : codes "check" ∷ [] ≡ codes "certify" ∷ codes "--settling" ∷ [] = sym x ∙ y in absurd (cc no)
-command-once words Check CheckSettling x y = let no : codes "check" ∷ [] ≡ codes "check" ∷ codes "--settling" ∷ [] = sym x ∙ y in absurd (cc no)
-command-once words Check (Run steps) x y = let no : codes "check" ∷ [] ≡ codes "run" ∷ y.options = sym x ∙ y.are in absurd (cc no)
-command-once words Check (RunUnchecked options) x y = let no : codes "check" ∷ [] ≡ codes "run" ∷ codes "--unchecked" ∷ y.word ∷ y.options = sym x ∙ y.are in absurd (cc no)
-command-once words CertifySettling Meta x y = let no : codes "certify" ∷ codes "--settling" ∷ [] ≡ codes "meta" ∷ [] = sym x ∙ y in absurd (cc no)
-command-once words CertifySettling Certify x y = let no : codes "certify" ∷ codes "--settling" ∷ [] ≡ codes "certify" ∷ [] = sym x ∙ y in absurd (cc no)
-command-once words CertifySettling Check x y = let no : codes "certify" ∷ codes "--settling" ∷ [] ≡ codes "check" ∷ [] = sym x ∙ y in absurd (cc no)
-command-once words CertifySettling CertifySettling x y = refl
-command-once words CertifySettling CheckSettling x y = let no : codes "certify" ∷ codes "--settling" ∷ [] ≡ codes "check" ∷ codes "--settling" ∷ [] = sym x ∙ y in absurd (cc no)
-command-once words CertifySettling (Run steps) x y = let no : codes "certify" ∷ codes "--settling" ∷ [] ≡ codes "run" ∷ y.options = sym x ∙ y.are in absurd (cc no)
-command-once words CertifySettling (RunUnchecked options) x y = let no : codes "certify" ∷ codes "--settling" ∷ [] ≡ codes "run" ∷ codes "--unchecked" ∷ y.word ∷ y.options = sym x ∙ y.are in absurd (cc no)
-command-once words CheckSettling Meta x y = let no : codes "check" ∷ codes "--settling" ∷ [] ≡ codes "meta" ∷ [] = sym x ∙ y in absurd (cc no)
-command-once words CheckSettling Certify x y = let no : codes "check" ∷ codes "--settling" ∷ [] ≡ codes "certify" ∷ [] = sym x ∙ y in absurd (cc no)
-command-once words CheckSettling Check x y = let no : codes "check" ∷ codes "--settling" ∷ [] ≡ codes "check" ∷ [] = sym x ∙ y in absurd (cc no)
-command-once words CheckSettling CertifySettling x y = let no : codes "check" ∷ codes "--settling" ∷ [] ≡ codes "certify" ∷ codes "--settling" ∷ [] = sym x ∙ y in absurd (cc no)
-command-once words CheckSettling CheckSettling x y = refl
-command-once words CheckSettling (Run steps) x y = let no : codes "check" ∷ codes "--settling" ∷ [] ≡ codes "run" ∷ y.options = sym x ∙ y.are in absurd (cc no)
-command-once words CheckSettling (RunUnchecked options) x y = let no : codes "check" ∷ codes "--settling" ∷ [] ≡ codes "run" ∷ codes "--unchecked" ∷ y.word ∷ y.options = sym x ∙ y.are in absurd (cc no)
-command-once words (Run steps) Meta x y = let no : codes "run" ∷ x.options ≡ codes "meta" ∷ [] = sym x.are ∙ y in absurd (cc no)
-command-once words (Run steps) Certify x y = let no : codes "run" ∷ x.options ≡ codes "certify" ∷ [] = sym x.are ∙ y in absurd (cc no)
-command-once words (Run steps) Check x y = let no : codes "run" ∷ x.options ≡ codes "check" ∷ [] = sym x.are ∙ y in absurd (cc no)
-command-once words (Run steps) CertifySettling x y = let no : codes "run" ∷ x.options ≡ codes "certify" ∷ codes "--settling" ∷ [] = sym x.are ∙ y in absurd (cc no)
-command-once words (Run steps) CheckSettling x y = let no : codes "run" ∷ x.options ≡ codes "check" ∷ codes "--settling" ∷ [] = sym x.are ∙ y in absurd (cc no)
-command-once words (Run m) (Run n) x y =
+-- .. nor with `--settling`
+limit-not-settling : {words options : List (List ℕ)} {n : ℕ} → words ≡ codes "--settling" ∷ options → IsLimit words n → ⊥
+limit-not-settling {words} {options} are (inl x) = let no : codes "--settling" ∷ options ≡ [] = sym are ∙ x.0 in cc no
+limit-not-settling {words} {options} are (inr x) =
+    let both : codes "--settling" ∷ options ≡ codes "--steps" ∷ x.0 ∷ [] = sym are ∙ x.1 in
+    let no : codes "--settling" ≡ codes "--steps" = cc both in
+    cc no
+
+-- .. and what has that doesn't begin as the depth does
+settling-not-unchecked : {words options more : List (List ℕ)} {word : List ℕ} → words ≡ codes "run" ∷ codes "--settling" ∷ options → words ≡ codes "run" ∷ codes "--unchecked" ∷ word ∷ more → ⊥
+settling-not-unchecked {words} {options} {more} {word} x y =
+    let behind = after_first words (codes "--settling" ∷ options) (codes "--unchecked" ∷ word ∷ more) _ _ x y in
+    let no : codes "--settling" ≡ codes "--unchecked" = cc behind in
+    cc no
+
+meta-once : (words : List (List ℕ)) (d : Command) → IsCommand words Meta → IsCommand words d → Meta ≡ d
+meta-once words Meta x y = refl
+meta-once words Certify x y = let no : codes "meta" ∷ [] ≡ codes "certify" ∷ [] = sym x ∙ y in absurd (cc no)
+meta-once words Check x y = let no : codes "meta" ∷ [] ≡ codes "check" ∷ [] = sym x ∙ y in absurd (cc no)
+meta-once words CertifySettling x y = let no : codes "meta" ∷ [] ≡ codes "certify" ∷ codes "--settling" ∷ [] = sym x ∙ y in absurd (cc no)
+meta-once words CheckSettling x y = let no : codes "meta" ∷ [] ≡ codes "check" ∷ codes "--settling" ∷ [] = sym x ∙ y in absurd (cc no)
+meta-once words (Run steps) x y = let no : codes "meta" ∷ [] ≡ codes "run" ∷ y.options = sym x ∙ y.are in absurd (cc no)
+meta-once words (RunSettling steps) x y = let no : codes "meta" ∷ [] ≡ codes "run" ∷ codes "--settling" ∷ y.options = sym x ∙ y.are in absurd (cc no)
+meta-once words (RunUnchecked options) x y = let no : codes "meta" ∷ [] ≡ codes "run" ∷ codes "--unchecked" ∷ y.word ∷ y.options = sym x ∙ y.are in absurd (cc no)
+
+certify-once : (words : List (List ℕ)) (d : Command) → IsCommand words Certify → IsCommand words d → Certify ≡ d
+certify-once words Meta x y = let no : codes "certify" ∷ [] ≡ codes "meta" ∷ [] = sym x ∙ y in absurd (cc no)
+certify-once words Certify x y = refl
+certify-once words Check x y = let no : codes "certify" ∷ [] ≡ codes "check" ∷ [] = sym x ∙ y in absurd (cc no)
+certify-once words CertifySettling x y = let no : codes "certify" ∷ [] ≡ codes "certify" ∷ codes "--settling" ∷ [] = sym x ∙ y in absurd (cc no)
+certify-once words CheckSettling x y = let no : codes "certify" ∷ [] ≡ codes "check" ∷ codes "--settling" ∷ [] = sym x ∙ y in absurd (cc no)
+certify-once words (Run steps) x y = let no : codes "certify" ∷ [] ≡ codes "run" ∷ y.options = sym x ∙ y.are in absurd (cc no)
+certify-once words (RunSettling steps) x y = let no : codes "certify" ∷ [] ≡ codes "run" ∷ codes "--settling" ∷ y.options = sym x ∙ y.are in absurd (cc no)
+certify-once words (RunUnchecked options) x y = let no : codes "certify" ∷ [] ≡ codes "run" ∷ codes "--unchecked" ∷ y.word ∷ y.options = sym x ∙ y.are in absurd (cc no)
+
+check-once : (words : List (List ℕ)) (d : Command) → IsCommand words Check → IsCommand words d → Check ≡ d
+check-once words Meta x y = let no : codes "check" ∷ [] ≡ codes "meta" ∷ [] = sym x ∙ y in absurd (cc no)
+check-once words Certify x y = let no : codes "check" ∷ [] ≡ codes "certify" ∷ [] = sym x ∙ y in absurd (cc no)
+check-once words Check x y = refl
+check-once words CertifySettling x y = let no : codes "check" ∷ [] ≡ codes "certify" ∷ codes "--settling" ∷ [] = sym x ∙ y in absurd (cc no)
+check-once words CheckSettling x y = let no : codes "check" ∷ [] ≡ codes "check" ∷ codes "--settling" ∷ [] = sym x ∙ y in absurd (cc no)
+check-once words (Run steps) x y = let no : codes "check" ∷ [] ≡ codes "run" ∷ y.options = sym x ∙ y.are in absurd (cc no)
+check-once words (RunSettling steps) x y = let no : codes "check" ∷ [] ≡ codes "run" ∷ codes "--settling" ∷ y.options = sym x ∙ y.are in absurd (cc no)
+check-once words (RunUnchecked options) x y = let no : codes "check" ∷ [] ≡ codes "run" ∷ codes "--unchecked" ∷ y.word ∷ y.options = sym x ∙ y.are in absurd (cc no)
+
+certify-settling-once : (words : List (List ℕ)) (d : Command) → IsCommand words CertifySettling → IsCommand words d → CertifySettling ≡ d
+certify-settling-once words Meta x y = let no : codes "certify" ∷ codes "--settling" ∷ [] ≡ codes "meta" ∷ [] = sym x ∙ y in absurd (cc no)
+certify-settling-once words Certify x y = let no : codes "certify" ∷ codes "--settling" ∷ [] ≡ codes "certify" ∷ [] = sym x ∙ y in absurd (cc no)
+certify-settling-once words Check x y = let no : codes "certify" ∷ codes "--settling" ∷ [] ≡ codes "check" ∷ [] = sym x ∙ y in absurd (cc no)
+certify-settling-once words CertifySettling x y = refl
+certify-settling-once words CheckSettling x y = let no : codes "certify" ∷ codes "--settling" ∷ [] ≡ codes "check" ∷ codes "--settling" ∷ [] = sym x ∙ y in absurd (cc no)
+certify-settling-once words (Run steps) x y = let no : codes "certify" ∷ codes "--settling" ∷ [] ≡ codes "run" ∷ y.options = sym x ∙ y.are in absurd (cc no)
+certify-settling-once words (RunSettling steps) x y = let no : codes "certify" ∷ codes "--settling" ∷ [] ≡ codes "run" ∷ codes "--settling" ∷ y.options = sym x ∙ y.are in absurd (cc no)
+certify-settling-once words (RunUnchecked options) x y = let no : codes "certify" ∷ codes "--settling" ∷ [] ≡ codes "run" ∷ codes "--unchecked" ∷ y.word ∷ y.options = sym x ∙ y.are in absurd (cc no)
+
+check-settling-once : (words : List (List ℕ)) (d : Command) → IsCommand words CheckSettling → IsCommand words d → CheckSettling ≡ d
+check-settling-once words Meta x y = let no : codes "check" ∷ codes "--settling" ∷ [] ≡ codes "meta" ∷ [] = sym x ∙ y in absurd (cc no)
+check-settling-once words Certify x y = let no : codes "check" ∷ codes "--settling" ∷ [] ≡ codes "certify" ∷ [] = sym x ∙ y in absurd (cc no)
+check-settling-once words Check x y = let no : codes "check" ∷ codes "--settling" ∷ [] ≡ codes "check" ∷ [] = sym x ∙ y in absurd (cc no)
+check-settling-once words CertifySettling x y = let no : codes "check" ∷ codes "--settling" ∷ [] ≡ codes "certify" ∷ codes "--settling" ∷ [] = sym x ∙ y in absurd (cc no)
+check-settling-once words CheckSettling x y = refl
+check-settling-once words (Run steps) x y = let no : codes "check" ∷ codes "--settling" ∷ [] ≡ codes "run" ∷ y.options = sym x ∙ y.are in absurd (cc no)
+check-settling-once words (RunSettling steps) x y = let no : codes "check" ∷ codes "--settling" ∷ [] ≡ codes "run" ∷ codes "--settling" ∷ y.options = sym x ∙ y.are in absurd (cc no)
+check-settling-once words (RunUnchecked options) x y = let no : codes "check" ∷ codes "--settling" ∷ [] ≡ codes "run" ∷ codes "--unchecked" ∷ y.word ∷ y.options = sym x ∙ y.are in absurd (cc no)
+
+run-once : (words : List (List ℕ)) (m : ℕ) (d : Command) → IsCommand words (Run m) → IsCommand words d → Run m ≡ d
+run-once words steps Meta x y = let no : codes "run" ∷ x.options ≡ codes "meta" ∷ [] = sym x.are ∙ y in absurd (cc no)
+run-once words steps Certify x y = let no : codes "run" ∷ x.options ≡ codes "certify" ∷ [] = sym x.are ∙ y in absurd (cc no)
+run-once words steps Check x y = let no : codes "run" ∷ x.options ≡ codes "check" ∷ [] = sym x.are ∙ y in absurd (cc no)
+run-once words steps CertifySettling x y = let no : codes "run" ∷ x.options ≡ codes "certify" ∷ codes "--settling" ∷ [] = sym x.are ∙ y in absurd (cc no)
+run-once words steps CheckSettling x y = let no : codes "run" ∷ x.options ≡ codes "check" ∷ codes "--settling" ∷ [] = sym x.are ∙ y in absurd (cc no)
+run-once words m (Run n) x y =
     let both : codes "run" ∷ x.options ≡ codes "run" ∷ y.options = sym x.are ∙ y.are in
     let options : x.options ≡ y.options = cc both in
     ap (λ (k : ℕ). Run k) (limit-once options x.limited y.limited)
-command-once words (Run m) (RunUnchecked options) x y =
+run-once words m (RunSettling n) x y =
+    let both : codes "run" ∷ x.options ≡ codes "run" ∷ codes "--settling" ∷ y.options = sym x.are ∙ y.are in
+    let behind : x.options ≡ codes "--settling" ∷ y.options = cc both in
+    absurd (limit-not-settling behind x.limited)
+run-once words m (RunUnchecked options) x y =
     let both : codes "run" ∷ x.options ≡ codes "run" ∷ codes "--unchecked" ∷ y.word ∷ y.options = sym x.are ∙ y.are in
     let behind : x.options ≡ codes "--unchecked" ∷ y.word ∷ y.options = cc both in
     absurd (limit-other behind x.limited)
-command-once words (RunUnchecked options) Meta x y = let no : codes "run" ∷ codes "--unchecked" ∷ x.word ∷ x.options ≡ codes "meta" ∷ [] = sym x.are ∙ y in absurd (cc no)
-command-once words (RunUnchecked options) Certify x y = let no : codes "run" ∷ codes "--unchecked" ∷ x.word ∷ x.options ≡ codes "certify" ∷ [] = sym x.are ∙ y in absurd (cc no)
-command-once words (RunUnchecked options) Check x y = let no : codes "run" ∷ codes "--unchecked" ∷ x.word ∷ x.options ≡ codes "check" ∷ [] = sym x.are ∙ y in absurd (cc no)
-command-once words (RunUnchecked options) CertifySettling x y = let no : codes "run" ∷ codes "--unchecked" ∷ x.word ∷ x.options ≡ codes "certify" ∷ codes "--settling" ∷ [] = sym x.are ∙ y in absurd (cc no)
-command-once words (RunUnchecked options) CheckSettling x y = let no : codes "run" ∷ codes "--unchecked" ∷ x.word ∷ x.options ≡ codes "check" ∷ codes "--settling" ∷ [] = sym x.are ∙ y in absurd (cc no)
-command-once words (RunUnchecked options) (Run n) x y =
+
+run-settling-once : (words : List (List ℕ)) (m : ℕ) (d : Command) → IsCommand words (RunSettling m) → IsCommand words d → RunSettling m ≡ d
+run-settling-once words steps Meta x y = let no : codes "run" ∷ codes "--settling" ∷ x.options ≡ codes "meta" ∷ [] = sym x.are ∙ y in absurd (cc no)
+run-settling-once words steps Certify x y = let no : codes "run" ∷ codes "--settling" ∷ x.options ≡ codes "certify" ∷ [] = sym x.are ∙ y in absurd (cc no)
+run-settling-once words steps Check x y = let no : codes "run" ∷ codes "--settling" ∷ x.options ≡ codes "check" ∷ [] = sym x.are ∙ y in absurd (cc no)
+run-settling-once words steps CertifySettling x y = let no : codes "run" ∷ codes "--settling" ∷ x.options ≡ codes "certify" ∷ codes "--settling" ∷ [] = sym x.are ∙ y in absurd (cc no)
+run-settling-once words steps CheckSettling x y = let no : codes "run" ∷ codes "--settling" ∷ x.options ≡ codes "check" ∷ codes "--settling" ∷ [] = sym x.are ∙ y in absurd (cc no)
+run-settling-once words m (Run n) x y =
+    let both : codes "run" ∷ y.options ≡ codes "run" ∷ codes "--settling" ∷ x.options = sym y.are ∙ x.are in
+    let behind : y.options ≡ codes "--settling" ∷ x.options = cc both in
+    absurd (limit-not-settling behind y.limited)
+run-settling-once words m (RunSettling n) x y =
+    let both : codes "run" ∷ codes "--settling" ∷ x.options ≡ codes "run" ∷ codes "--settling" ∷ y.options = sym x.are ∙ y.are in
+    let options : x.options ≡ y.options = cc both in
+    ap (λ (k : ℕ). RunSettling k) (limit-once options x.limited y.limited)
+run-settling-once words m (RunUnchecked options) x y = absurd (settling-not-unchecked x.are y.are)
+
+run-unchecked-once : (words : List (List ℕ)) (m : Options) (d : Command) → IsCommand words (RunUnchecked m) → IsCommand words d → RunUnchecked m ≡ d
+run-unchecked-once words options Meta x y = let no : codes "run" ∷ codes "--unchecked" ∷ x.word ∷ x.options ≡ codes "meta" ∷ [] = sym x.are ∙ y in absurd (cc no)
+run-unchecked-once words options Certify x y = let no : codes "run" ∷ codes "--unchecked" ∷ x.word ∷ x.options ≡ codes "certify" ∷ [] = sym x.are ∙ y in absurd (cc no)
+run-unchecked-once words options Check x y = let no : codes "run" ∷ codes "--unchecked" ∷ x.word ∷ x.options ≡ codes "check" ∷ [] = sym x.are ∙ y in absurd (cc no)
+run-unchecked-once words options CertifySettling x y = let no : codes "run" ∷ codes "--unchecked" ∷ x.word ∷ x.options ≡ codes "certify" ∷ codes "--settling" ∷ [] = sym x.are ∙ y in absurd (cc no)
+run-unchecked-once words options CheckSettling x y = let no : codes "run" ∷ codes "--unchecked" ∷ x.word ∷ x.options ≡ codes "check" ∷ codes "--settling" ∷ [] = sym x.are ∙ y in absurd (cc no)
+run-unchecked-once words options (Run n) x y =
     let both : codes "run" ∷ y.options ≡ codes "run" ∷ codes "--unchecked" ∷ x.word ∷ x.options = sym y.are ∙ x.are in
     let behind : y.options ≡ codes "--unchecked" ∷ x.word ∷ x.options = cc both in
     absurd (limit-other behind y.limited)
-command-once words (RunUnchecked m) (RunUnchecked n) x y =
+run-unchecked-once words options (RunSettling n) x y = absurd (settling-not-unchecked y.are x.are)
+run-unchecked-once words m (RunUnchecked n) x y =
     let both : codes "run" ∷ codes "--unchecked" ∷ x.word ∷ x.options ≡ codes "run" ∷ codes "--unchecked" ∷ y.word ∷ y.options = sym x.are ∙ y.are in
     let word : x.word ≡ y.word = cc both in
     let options : x.options ≡ y.options = cc both in
     let depth : m.depth ≡ n.depth = number-once word x.deep y.deep in
     let steps : m.steps ≡ n.steps = limit-once options x.limited y.limited in
     ap (λ (k : ℕ). RunUnchecked (record { depth = k; steps = m.steps })) depth ∙ ap (λ (k : ℕ). RunUnchecked (record { depth = n.depth; steps = k })) steps
+
+command-once : (words : List (List ℕ)) (c d : Command) → IsCommand words c → IsCommand words d → c ≡ d
+command-once words Meta d x y = meta-once words d x y
+command-once words Certify d x y = certify-once words d x y
+command-once words Check d x y = check-once words d x y
+command-once words CertifySettling d x y = certify-settling-once words d x y
+command-once words CheckSettling d x y = check-settling-once words d x y
+command-once words (Run m) d x y = run-once words m d x y
+command-once words (RunSettling m) d x y = run-settling-once words m d x y
+command-once words (RunUnchecked m) d x y = run-unchecked-once words m d x y
 
 -- so with `--wide` in front
 line-once : (words : List (List ℕ)) (c d : Command) (v w : Bool) → IsLineOf words c v → IsLineOf words d w → line_of c v ≡ line_of d w
@@ -159,7 +222,6 @@ same-or-short (of_program.Uncertified p why.Memory) = inl (record { line = refl;
 same-or-short (of_program.Valid checked) = inr refl
 same-or-short (of_program.Settling (settling.Certificate p text)) = inr refl
 same-or-short (of_program.Settling (settling.Uncertified p w)) = inr refl
-same-or-short (of_program.Settling (settling.Invalid reason)) = inr refl
 same-or-short (of_program.Settling (settling.Valid checked)) = inr refl
 
 abbrev OneProgram : (ProgramOutcome → Type 0) → Type 0
@@ -196,6 +258,7 @@ does-once limits gives heads natives once Check (program ∷ certificate ∷ [])
 does-once limits gives heads natives once CertifySettling (program ∷ []) = of-program (one_settling_certifying limits program)
 does-once limits gives heads natives once CheckSettling (program ∷ certificate ∷ []) = of-program (by-equal (one_settling_check limits program certificate))
 does-once limits gives heads natives once (Run steps) (program ∷ certificate ∷ script ∷ []) = λ a b x y. one_run_outcome gives limits heads natives program certificate script steps a b once x y
+does-once limits gives heads natives once (RunSettling steps) (program ∷ certificate ∷ script ∷ []) = λ a b x y. one_settling_run_outcome gives limits heads natives program certificate script steps a b once x y
 does-once limits gives heads natives once (RunUnchecked options) (program ∷ script ∷ []) = λ a b x y. one_unchecked_outcome gives limits heads natives program script options.depth options.steps a b once x y
 does-once limits gives heads natives once command texts = λ a b x y. absurd x
 

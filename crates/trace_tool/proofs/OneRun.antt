@@ -4,14 +4,16 @@ use Rattle.certificate_lang.specs.declared.certificate.Certificate.{Certificate}
 use Rattle.meta_model.specs.{Loaded.{Loaded}, Sound.{IsSound}}
 use Rattle.native_slots.specs.declared.head.NativeHead.{NativeHead}
 use Rattle.rank_check.specs.Checks.{Checking}
+use Rattle.settling.specs.{Checks.{Checking as Settled}, declared.certificate.SettlingCertificate.{SettlingCertificate}}
+use Rattle.texts.specs.Limits.{most_depth}
 use Rattle.script_lang.specs.declared.event.Event.{Event}
 use Rattle.trace_entries.specs.{declared.fault.Answer.{Answer}, declared.fault.Fault.{Fault}, declared.fault.Fault.TheVariants.{Steps}}
 use Rattle.machine_state.specs.{State.{State, Activation, IsIdle}, Worlds.{at, untouched}}
 use Rattle.machine_rules.specs.{Natives.{NativeAnswers, AnswersOnce}, code.Keeps.{Grows}}
 use Rattle.object_machine.{specs.Causes.{Brings, StopsFor, spent, short as of_memory, brings, lacks_value, writes_ill, binds_ill, goes_ill, goes_fatal, binds_loop, writes_deep, goes_deep}, specs.Runs.{Run, done, goes, takes, RunsWhole, RunsPrefix, IsDue, goes_on as is_under_way, is_next}, proofs.OneRun.{no-rule, one_run, one_prefix, one_prefix_of_answers}, proofs.CheckedRuns.Kept.{start-invariant}, specs.Seen.{Seen, RunsAll, Halts, begun}}
 use Rattle.class_lang.specs.declared.size.Limits.{Limits}
-use Rattle.program_commands.{specs.Loading.{LoadsCertified}, specs.Steps.{First, fails, goes_on}, proofs.Once.{OneOf, both_fail, one_fails, same_found, IsShortResult, never_short, loaded_sound}, proofs.Stepping.{went}}
-use Rattle.trace_tool.{specs.declared.any_machine.outcome.Outcome.{Outcome}, specs.declared.any_machine.outcome.Ran.{Ran}, specs.Outcomes.{IsShort}, specs.Commands.{Accepting, MayRun, Runs, RunsFaultless, ran, short, ran_faultless, short_of_memory}, specs.Laws.{AreOneRun, IsSameOutcome, OneRunOutcome, OneUncheckedOutcome, StoppedIsPrefix}, proofs.Accepted.{accepting_once, may_run_once, short_refused}}
+use Rattle.program_commands.{specs.Loading.{LoadsCertified, LoadsSettling}, specs.Steps.{First, fails, goes_on}, proofs.Once.{OneOf, both_fail, one_fails, same_found, IsShortResult, never_short, loaded_sound}, proofs.Stepping.{went}}
+use Rattle.trace_tool.{specs.declared.any_machine.outcome.Outcome.{Outcome}, specs.declared.any_machine.outcome.Ran.{Ran}, specs.Outcomes.{IsShort}, specs.Commands.{Accepting, AcceptingSettling, MayRun, Runs, RunsFaultless, RunsSettling, ran, short, ran_faultless, short_of_memory, ran_settling, short_settling}, specs.Laws.{AreOneRun, IsSameOutcome, OneRunOutcome, OneSettlingRunOutcome, OneUncheckedOutcome, StoppedIsPrefix}, proofs.Accepted.{accepting_once, accepting_settling_once, may_run_once, short_refused}}
 
 -- ---- where a run ends for good
 
@@ -175,6 +177,23 @@ accepted_sound {both = both} steps =
     let program : both.0.program ≡ a.0.0 = ap (λ (pair : Checking × List Event). pair.0.program) same ∙ c.1.0 in
     subst IsSound (sym program) (certified_sound a.1)
 
+loaded_settling_sound : {limits : Limits} {program certificate : List ℕ} {both : Loaded × SettlingCertificate} → LoadsSettling limits program certificate (Ok both) → IsSound both.0
+loaded_settling_sound {both = both} steps =
+    let a = went steps (λ fault is. cc is) in
+    let b = went a.2 (λ fault is. cc is) in
+    let same : both ≡ (a.0, b.0) = cc b.2 in
+    subst IsSound (sym (ap (λ (pair : Loaded × SettlingCertificate). pair.0) same)) (loaded_sound a.1)
+
+pub settling_sound : {limits : Limits} {heads : List NativeHead} {program certificate script : List ℕ} {both : Settled × List Event} → AcceptingSettling limits heads program certificate script (Ok both) → IsSound both.0.program
+settling_sound {both = both} steps =
+    let a = went steps (λ fault is. cc is) in
+    let b = went a.2 (λ fault is. cc is) in
+    let c = went b.2 (λ fault is. cc is) in
+    let d = went c.2 (λ fault is. cc is) in
+    let same : both ≡ (c.0, b.0) = cc d.2 in
+    let program : both.0.program ≡ a.0.0 = ap (λ (pair : Settled × List Event). pair.0.program) same ∙ c.1.0 in
+    subst IsSound (sym program) (loaded_settling_sound a.1)
+
 may_run_sound : {limits : Limits} {heads : List NativeHead} {program script : List ℕ} {both : Loaded × List Event} → MayRun limits heads program script (Ok both) → IsSound both.0
 may_run_sound {both = both} steps =
     let a = went steps (λ fault is. cc is) in
@@ -191,6 +210,12 @@ one_faultless gives p natives depth steps events is_sound once (ran_faultless x 
 one_faultless gives p natives depth steps events is_sound once (ran_faultless x all ends claims) short_of_memory = inr (inl (record { line = refl; status_is = refl }))
 one_faultless gives p natives depth steps events is_sound once short_of_memory y = inl (record { line = refl; status_is = refl })
 
+one_settling : {N : Type 0} (gives : N → NativeAnswers) (certificate : SettlingCertificate) (p : Loaded) (natives : N) (depth steps : ℕ) (events : List Event) {a b : Outcome (Seen N)} → IsSound p → AnswersOnce (gives natives) →
+    RunsSettling gives certificate (begun p natives depth steps) events a → RunsSettling gives certificate (begun p natives depth steps) events b → IsShort a ⊎ IsShort b ⊎ IsSameOutcome a b
+one_settling gives certificate p natives depth steps events is_sound once (ran_settling x all ends claims) (ran_settling y also its theirs) = inr (inr (one_of_runs gives p natives depth steps events is_sound once x y all also))
+one_settling gives certificate p natives depth steps events is_sound once (ran_settling x all ends claims) short_settling = inr (inl (record { line = refl; status_is = refl }))
+one_settling gives certificate p natives depth steps events is_sound once short_settling y = inl (record { line = refl; status_is = refl })
+
 one_unchecked : {N : Type 0} (gives : N → NativeAnswers) (p : Loaded) (natives : N) (depth steps : ℕ) (events : List Event) {a b : Outcome (Seen N)} → IsSound p → AnswersOnce (gives natives) →
     Runs gives (begun p natives depth steps) events a → Runs gives (begun p natives depth steps) events b → IsShort a ⊎ IsShort b ⊎ IsSameOutcome a b
 one_unchecked gives p natives depth steps events is_sound once (ran x all) (ran y also) = inr (inr (one_of_runs gives p natives depth steps events is_sound once x y all also))
@@ -201,6 +226,11 @@ pub one_run_outcome : {N : Type 0} (gives : N → NativeAnswers) → OneRunOutco
 one_run_outcome gives limits heads natives program certificate script steps a b once =
     same_first IsShortResult IsShort IsSameOutcome (accepting_once limits heads program certificate script) short_refused never_short (λ r. refl)
     (λ both accepted x y h k. one_faultless gives both.0.program natives both.0.certificate.bound steps both.1 (accepted_sound accepted) once h k) a b
+
+pub one_settling_run_outcome : {N : Type 0} (gives : N → NativeAnswers) → OneSettlingRunOutcome gives
+one_settling_run_outcome gives limits heads natives program certificate script steps a b once =
+    same_first IsShortResult IsShort IsSameOutcome (accepting_settling_once limits heads program certificate script) short_refused never_short (λ r. refl)
+    (λ both accepted x y h k. one_settling gives both.0.certificate both.0.program natives most_depth steps both.1 (settling_sound accepted) once h k) a b
 
 pub one_unchecked_outcome : {N : Type 0} (gives : N → NativeAnswers) → OneUncheckedOutcome gives
 one_unchecked_outcome gives limits heads natives program script depth steps a b once =

@@ -6,10 +6,12 @@ use Rattle.native_slots.specs.Promises.{Takes}
 use Rattle.trace_entries.specs.{Faults.{number_of as fault_number}, declared.entry.Entry.{Entry}, declared.fault.Fault.{Fault}}
 use Rattle.machine_rules.specs.Natives.{NativeAnswers}
 use Rattle.object_machine.specs.{Claims.{Claims, HasItsArguments, IsEverAcyclic, SparesActive, IsEverShallow, IsEverTyped, IsEverSettled}, Checked.{IsChecked, StopsAtLimit}, Seen.{Seen, AreKept, RunsAll, begun, with_front}}
+use Rattle.settling.specs.declared.certificate.SettlingCertificate.{SettlingCertificate}
+use Rattle.settled_runs.specs.Machine.{SettlingClaims}
 use Rattle.program_commands.specs.Refusals.{fault_line}
 use Rattle.command_lines.specs.declared.input.InputFault.TheVariants as input
 use Rattle.command_lines.specs.{Failing.{HasFailed}, Lines.{entry_line, trace_text}, Sent.{TakesWith}, declared.output.Output.{Output}, declared.usage.UsageFault.TheVariants.{Words}, declared.watched.Failing.{Failing}}
-use Rattle.trace_tool.{specs.Failed.{IfUnread}, specs.Outcomes.{Writes, answer_of, run_answer, outcome_text, outcome_status, run_text, run_status, seen_outcome}, specs.declared.any_machine.outcome.Outcome.{Outcome}, specs.declared.any_machine.outcome.Outcome.TheVariants.{Usage, NoInput, Program, Ran as OfRun, Memory}, specs.declared.any_machine.outcome.Ran.{Ran}, specs.Commands.{Runs, RunsFaultless, ran, ran_faultless}, specs.Prepared.{RunsSo, Prepares, ComesOf, ComesOfRun, CarriesOut, seen_prepared, with_gone}, specs.code.Streaming.{Streams}, specs.declared.any_machine.prepared.Prepared.{Prepared}, specs.declared.any_machine.prepared.Prepared.TheVariants.{Done, Ready as OfReady}, specs.declared.any_machine.prepared.Ready.{Ready}, proofs.Answering.{ends_at_limit, claims_of}}
+use Rattle.trace_tool.{specs.Failed.{IfUnread}, specs.Outcomes.{Writes, answer_of, run_answer, outcome_text, outcome_status, run_text, run_status, seen_outcome}, specs.declared.any_machine.outcome.Outcome.{Outcome}, specs.declared.any_machine.outcome.Outcome.TheVariants.{Usage, NoInput, Program, Ran as OfRun, Memory}, specs.declared.any_machine.outcome.Ran.{Ran}, specs.Commands.{Runs, RunsFaultless, RunsSettling, ran, ran_faultless, ran_settling}, specs.Prepared.{RunsSo, Prepares, ComesOf, ComesOfRun, CarriesOut, seen_prepared, with_gone}, specs.code.Streaming.{Streams}, specs.declared.any_machine.prepared.Prepared.{Prepared}, specs.declared.any_machine.prepared.Prepared.TheVariants.{Done, Ready as OfReady}, specs.declared.any_machine.prepared.Ready.{Ready}, proofs.Answering.{ends_at_limit, ends_settling, claims_of}}
 
 -- ---- what is prepared
 
@@ -42,6 +44,14 @@ module _ {N : Type 0} {gives : N → NativeAnswers} {machine : Seen N} {loaded :
       let claims : Claims gives machine = record { arguments = arguments; acyclic = acyclic; spared = spared; shallow = shallow; typed = typed; settled = settled } in
       let Goes : Seen N → Type 0 = λ m. RunsAll gives m events end.ended end.machine in
       ran_faultless end (subst Goes begins so.ran) (ends_at_limit end.ended begins (so.limits checked)) (claims_of begins claims)
+
+  pub settling-begun : {certificate : SettlingCertificate} → machine ≡ begun loaded natives depth steps → SettlingClaims gives certificate machine → (end : Ran (Seen N)) → RunsSo gives machine events end → RunsSettling gives certificate (begun loaded natives depth steps) events (OfRun end)
+  settling-begun {certificate} begins claims end so =
+      let Goes : Seen N → Type 0 = λ m. RunsAll gives m events end.ended end.machine in
+      let Claimed : Seen N → Type 0 = λ m. SettlingClaims gives certificate m in
+      let goes = subst Goes begins so.ran in
+      let claimed = subst Claimed begins claims in
+      ran_settling end goes (ends_settling gives certificate loaded natives depth steps events end.ended end.machine goes claimed.stops) claimed
 
 -- ---- what was done
 

@@ -3,6 +3,7 @@ use Rattle.std.proofs.Common.{◌≡◌, ℕ, List, [], ◌∷◌, Result, Ok, E
 use Rattle.class_lang.specs.declared.size.Limits.{Limits}
 use Rattle.native_slots.specs.declared.head.NativeHead.{NativeHead}
 use Rattle.script_lang.specs.declared.event.Event.{Event}
+use Rattle.settling.specs.declared.certificate.SettlingCertificate.{SettlingCertificate}
 use Rattle.machine_rules.specs.Natives.{NativeAnswers}
 use Rattle.object_machine.specs.Seen.{Seen}
 use Rattle.program_commands.specs.declared.outcome.Outcome.{Outcome as ProgramOutcome}
@@ -11,9 +12,9 @@ use Rattle.program_commands.specs.Steps.{First, Is, fails, goes_on}
 use Rattle.command_lines.specs.Failing.{OnUnread}
 use Rattle.command_lines.specs.declared.input.InputFault.{InputFault}
 use Rattle.command_lines.specs.declared.words.Command.{Command}
-use Rattle.command_lines.specs.declared.words.Command.TheVariants.{Meta, Certify, Check, CertifySettling, CheckSettling, Run, RunUnchecked}
+use Rattle.command_lines.specs.declared.words.Command.TheVariants.{Meta, Certify, Check, CertifySettling, CheckSettling, Run, RunSettling, RunUnchecked}
 use Rattle.trace_tool.specs.Failed.{IfUnread}
-use Rattle.trace_tool.specs.Commands.{CommandComesTo, Does, InputComesTo, IsOfProgram, Runs, RunsFaultless, ran, short, ran_faultless, short_of_memory, refused, limits_of}
+use Rattle.trace_tool.specs.Commands.{CommandComesTo, Does, InputComesTo, IsOfProgram, Runs, RunsFaultless, RunsSettling, ran, short, ran_faultless, short_of_memory, ran_settling, short_settling, refused, limits_of}
 use Rattle.trace_tool.specs.declared.any_machine.outcome.Outcome.{Outcome}
 use Rattle.trace_tool.specs.declared.any_machine.outcome.Outcome.TheVariants.{NoInput}
 
@@ -31,6 +32,10 @@ module _ {N : Type 0} (P : Type 0) where
   of-faultless (ran_faultless end runs limit claims) = tt
   of-faultless short_of_memory = tt
 
+  of-settling : {gives : N → NativeAnswers} {certificate : SettlingCertificate} {machine : Seen N} {events : List Event} {end : Outcome (Seen N)} → RunsSettling gives certificate machine events end → IfUnread end P
+  of-settling (ran_settling end runs limit claims) = tt
+  of-settling short_settling = tt
+
   of-first : {X : Type 0} {Finds : Result X Refusal → Type 0} {Next : X → Outcome (Seen N) → Type 0} {end : Outcome (Seen N)} → ((x : X) (o : Outcome (Seen N)) → Next x o → IfUnread o P) → First Finds refused Next end → IfUnread end P
   of-first next (fails fault finds) = tt
   of-first next (goes_on found end finds goes) = next found end goes
@@ -42,6 +47,7 @@ module _ {N : Type 0} (P : Type 0) where
   of-does limits gives heads natives CertifySettling (program ∷ []) = λ end x. of-program x
   of-does limits gives heads natives CheckSettling (program ∷ certificate ∷ []) = λ end x. of-program x
   of-does limits gives heads natives (Run steps) (program ∷ certificate ∷ script ∷ []) = λ end x. of-first (λ both o runs. of-faultless runs) x
+  of-does limits gives heads natives (RunSettling steps) (program ∷ certificate ∷ script ∷ []) = λ end x. of-first (λ both o runs. of-settling runs) x
   of-does limits gives heads natives (RunUnchecked options) (program ∷ script ∷ []) = λ end x. of-first (λ both o runs. of-runs runs) x
   of-does limits gives heads natives command texts = λ end x. absurd x
 

@@ -2,15 +2,19 @@
 -- that it comes only where a growth of memory was refused is not stated here.
 use Rattle.std.specs.{Prelude.{◌≡◌, ℕ, ◌<◌, ◌≤◌, ◌⊎◌, Bool, true, false, List, [], ◌∷◌, length, take, codes, Option, Result, Ok, Err, IfErr, IfSome}, Borrow.{Bor}}
 use Rattle.certificate_lang.specs.declared.certificate.Certificate.{Certificate}
+use Rattle.texts.specs.Limits.{most_depth}
 use Rattle.class_lang.specs.{Limits.{standard, wide}, declared.size.Limits.{Limits}}
 use Rattle.meta_model.specs.Loaded.{Loaded}
 use Rattle.native_slots.specs.{declared.head.NativeHead.{NativeHead}, Misfits.{Fits}}
 use Rattle.rank_check.specs.Checks.{Checking, Examines}
+use Rattle.settling.specs.{Checks.{Checking as Settled, Checks as ChecksSettling}, declared.certificate.SettlingCertificate.{SettlingCertificate}}
 use Rattle.script_lang.specs.{Reads.{ReadsScript}, declared.event.Event.{Event}}
 use Rattle.machine_rules.specs.Natives.{NativeAnswers}
+use Rattle.machine_state.specs.Worlds.{at}
 use Rattle.object_machine.specs.{Checked.{IsLimit}, Claims.{Claims}, Seen.{Seen, RunsAll, begun}}
-use Rattle.program_commands.specs.{declared.outcome.Outcome.{Outcome as ProgramOutcome}, declared.outcome.Outcome.TheVariants.{Refused}, declared.refusal.Refusal.{Refusal}, declared.refusal.Refusal.TheVariants.{Script, Check as OfCheck, Natives as OfNatives}, Commands.{CheckComesTo, CertifyComesTo, MetaComesTo}, Settling.{CertifySettlingComesTo, CheckSettlingComesTo}, Loading.{LoadsProgram, LoadsCertified}, Steps.{First, Is, Gives}}
-use Rattle.command_lines.specs.{Cut.{AreTexts}, Words.{IsLine, IsNoLine}, declared.input.InputFault.{InputFault}, declared.usage.UsageFault.{UsageFault}, declared.usage.UsageFault.TheVariants.{Words, TooLarge, Texts}, declared.words.Command.{Command}, declared.words.Command.TheVariants.{Meta, Certify, Check, CertifySettling, CheckSettling, Run, RunUnchecked}, declared.words.CommandLine.{CommandLine}}
+use Rattle.settled_runs.specs.{Claims.{IsLimitAt}, Machine.{SettlingClaims}}
+use Rattle.program_commands.specs.{declared.outcome.Outcome.{Outcome as ProgramOutcome}, declared.outcome.Outcome.TheVariants.{Refused}, declared.refusal.Refusal.{Refusal}, declared.refusal.Refusal.TheVariants.{Script, Check as OfCheck, Unsettled, Natives as OfNatives}, Commands.{CheckComesTo, CertifyComesTo, MetaComesTo}, Settling.{CertifySettlingComesTo, CheckSettlingComesTo}, Loading.{LoadsProgram, LoadsCertified, LoadsSettling}, Steps.{First, Is, Gives}}
+use Rattle.command_lines.specs.{Cut.{AreTexts}, Words.{IsLine, IsNoLine}, declared.input.InputFault.{InputFault}, declared.usage.UsageFault.{UsageFault}, declared.usage.UsageFault.TheVariants.{Words, TooLarge, Texts}, declared.words.Command.{Command}, declared.words.Command.TheVariants.{Meta, Certify, Check, CertifySettling, CheckSettling, Run, RunSettling, RunUnchecked}, declared.words.CommandLine.{CommandLine}}
 use Rattle.trace_tool.specs.{Outcomes.{Writes, answer_of}, declared.any_machine.outcome.Outcome.{Outcome}, declared.any_machine.outcome.Outcome.TheVariants.{Usage, NoInput, Program, Ran as OfRun, Memory}, declared.any_machine.outcome.Ran.{Ran}}
 
 -- a program is refused, and doesn't run
@@ -73,6 +77,42 @@ AcceptedComesTo gives natives loaded read events steps outcome =
     RunsFaultless gives (begun loaded natives read.bound steps) events outcome
     ⊎ (answer_of outcome ≡ (codes "memory\n", 1))
 
+-- ---- `run --settling`
+
+-- The program is loaded, its settling certificate is read, the script is read, the certificate is valid for the program, and the
+-- closures are those that the program declares.
+abbrev pub AcceptingSettling : Limits → List NativeHead → List ℕ → List ℕ → List ℕ → Result (Settled × List Event) Refusal → Type 0
+AcceptingSettling limits heads program certificate script =
+    First (LoadsSettling limits program certificate) Err (λ both.
+    First (ReadsScript script) (λ fault. Err (Script fault)) (λ events.
+    First (ChecksSettling both.0 both.1) (λ reason. Err (Unsettled reason)) (λ checked.
+    First (Fits heads checked.program) (λ misfit. Err (OfNatives misfit)) (λ fit. Gives (checked, events)))))
+
+-- by these limits `run --settling` accepts texts with the closures: nothing refuses them, and this is what they say
+abbrev pub AcceptsSettling : Limits → List NativeHead → List ℕ → List ℕ → List ℕ → Loaded → SettlingCertificate → List Event → Type 0
+AcceptsSettling limits heads program certificate script loaded read events =
+    AcceptingSettling limits heads program certificate script (Ok (record { program = loaded; certificate = read }, events))
+
+-- a machine that is accepted runs on these events to their end, or to the step limit, or until memory runs out, or to its depth,
+-- where that is less than the bound and the step for each object that was made by then; and the claims hold of every run of it.
+-- Or there is no memory to make it.
+pub data RunsSettling {N : Type 0} (gives : N → NativeAnswers) (certificate : SettlingCertificate) (machine : Seen N) (events : List Event) : Outcome (Seen N) → Type 0 where
+  ran_settling : (end : Ran (Seen N)) → RunsAll gives machine events end.ended end.machine → IfErr end.ended (IsLimitAt certificate machine.depth (at end.machine.world [])) →
+      SettlingClaims gives certificate machine → RunsSettling gives certificate machine events (OfRun end)
+  short_settling : RunsSettling gives certificate machine events Memory
+
+-- `run --settling`, from the limits of a program, the closures, the texts and the limit of steps: the depth is the greatest
+abbrev pub SettlingRunComesTo : {N : Type 0} → Limits → (N → NativeAnswers) → List NativeHead → N → List ℕ → List ℕ → List ℕ → ℕ → Outcome (Seen N) → Type 0
+SettlingRunComesTo limits gives heads natives program certificate script steps =
+    First (AcceptingSettling limits heads program certificate script) refused (λ both.
+    RunsSettling gives both.0.certificate (begun both.0.program natives most_depth steps) both.1)
+
+-- where it accepts: the run of this program for these events; or, where memory runs out, `memory`
+abbrev pub AcceptedSettlingComesTo : {N : Type 0} → (N → NativeAnswers) → N → Loaded → SettlingCertificate → List Event → ℕ → Outcome (Seen N) → Type 0
+AcceptedSettlingComesTo gives natives loaded read events steps outcome =
+    RunsSettling gives read (begun loaded natives most_depth steps) events outcome
+    ⊎ (answer_of outcome ≡ (codes "memory\n", 1))
+
 -- ---- command lines
 
 -- the words are this command line's, or none's
@@ -93,6 +133,7 @@ texts_of Check = 2
 texts_of CertifySettling = 1
 texts_of CheckSettling = 2
 texts_of (Run steps) = 3
+texts_of (RunSettling steps) = 3
 texts_of (RunUnchecked options) = 2
 
 -- The texts of an input, as many as the command takes; or it has more than 64 MiB, or another number of texts.
@@ -120,6 +161,8 @@ Does limits gives heads natives CheckSettling (program ∷ certificate ∷ []) o
     IsOfProgram (CheckSettlingComesTo limits program certificate) outcome
 Does limits gives heads natives (Run steps) (program ∷ certificate ∷ script ∷ []) outcome =
     RunComesTo limits gives heads natives program certificate script steps outcome
+Does limits gives heads natives (RunSettling steps) (program ∷ certificate ∷ script ∷ []) outcome =
+    SettlingRunComesTo limits gives heads natives program certificate script steps outcome
 Does limits gives heads natives (RunUnchecked options) (program ∷ script ∷ []) outcome =
     UncheckedRunComesTo limits gives heads natives program script options.depth options.steps outcome
 Does limits gives heads natives command texts outcome = ⊥

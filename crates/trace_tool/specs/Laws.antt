@@ -9,7 +9,7 @@ use Rattle.machine_rules.specs.{Natives.{NativeAnswers, AnswersOnce}, code.Keeps
 use Rattle.object_machine.specs.{Laws.{AnswersAre}, Runs.{RunsWhole}, Seen.{Seen, Halts, begun}}
 use Rattle.program_commands.specs.{Commands.{IsSameOutcome as IsSameOfProgram}, Refusals.{usage_line, memory_line}}
 use Rattle.command_lines.specs.declared.input.InputFault.{InputFault}
-use Rattle.trace_tool.specs.{declared.any_machine.outcome.Outcome.{Outcome}, declared.any_machine.outcome.Outcome.TheVariants.{Program, Ran as OfRun}, declared.any_machine.outcome.Ran.{Ran}, Outcomes.{outcome_text, outcome_status, IsShort}, Commands.{RunComesTo, UncheckedRunComesTo, CommandComesTo}}
+use Rattle.trace_tool.specs.{declared.any_machine.outcome.Outcome.{Outcome}, declared.any_machine.outcome.Outcome.TheVariants.{Program, Ran as OfRun}, declared.any_machine.outcome.Ran.{Ran}, Outcomes.{outcome_text, outcome_status, IsShort}, Commands.{RunComesTo, SettlingRunComesTo, UncheckedRunComesTo, CommandComesTo}}
 use Rattle.class_lang.specs.declared.size.Limits.{Limits}
 
 -- Where nothing was done nothing comes before `usage` or `memory`, nor after it; after a read that failed nothing is
@@ -40,6 +40,13 @@ OneRunOutcome {N} gives =
     (limits : Limits) (heads : List NativeHead) (natives : N) (program certificate script : List ℕ) (steps : ℕ) (a b : Outcome (Seen N)) →
     AnswersOnce (gives natives) → RunComesTo limits gives heads natives program certificate script steps a →
     RunComesTo limits gives heads natives program certificate script steps b → IsShort a ⊎ IsShort b ⊎ IsSameOutcome a b
+
+-- So `run --settling` comes to one refusal, or to one run.
+abbrev pub OneSettlingRunOutcome : {N : Type 0} → (N → NativeAnswers) → Type 0
+OneSettlingRunOutcome {N} gives =
+    (limits : Limits) (heads : List NativeHead) (natives : N) (program certificate script : List ℕ) (steps : ℕ) (a b : Outcome (Seen N)) →
+    AnswersOnce (gives natives) → SettlingRunComesTo limits gives heads natives program certificate script steps a →
+    SettlingRunComesTo limits gives heads natives program certificate script steps b → IsShort a ⊎ IsShort b ⊎ IsSameOutcome a b
 
 -- So `run --unchecked` comes to one refusal, or to one run.
 abbrev pub OneUncheckedOutcome : {N : Type 0} → (N → NativeAnswers) → Type 0

@@ -14,4 +14,4 @@ pub use object_machine::ObjectMachine;
 pub use outcome::{Outcome, Ran, Sent};
 pub use prepared::{Carried, Prepared, Ready, sent};
 pub use program_commands::{Outcome as ProgramOutcome, Refusal, Why};
-pub use runs::{prepare_run, prepare_unchecked_run};
+pub use runs::{prepare_run, prepare_settling_run, prepare_unchecked_run};

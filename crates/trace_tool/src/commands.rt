@@ -49,6 +49,7 @@ pub fn command<R: Read, W: Write>(
 /// - `check --settling` takes two texts, a program and its settling certificate, and answers as `check`.
 /// - `run [--steps M]` takes three texts, a program, its certificate and a script, checks the program, and runs it on the
 ///   script.
+/// - `run --settling [--steps M]` takes three texts, a program, its settling certificate and a script, and does as `run`.
 /// - `run --unchecked N [--steps M]` takes two texts, a program and a script, with a line `%%` between them, and runs
 ///   the one on the other; N is from 1 to 256, M from 1 to 2^63 - 1, or 1,000,000 where it isn't given.
 ///

@@ -1,6 +1,6 @@
 //! Laws on what runs come to.
 
-ghost use Rattle.trace_tool.specs.Laws.{UndoneIsALine, OneRunOutcome, OneUncheckedOutcome, OneCommandOutcome, StoppedIsPrefix};
+ghost use Rattle.trace_tool.specs.Laws.{UndoneIsALine, OneRunOutcome, OneSettlingRunOutcome, OneUncheckedOutcome, OneCommandOutcome, StoppedIsPrefix};
 
 use native_slots::Answering;
 
@@ -10,12 +10,13 @@ pub fn undone_is_a_line<N: Answering>(_natives: &N)
     ensures { UndoneIsALine N }
 {}
 
-/// Where natives have one answer to one question, what both forms of `run` come to is determined by their arguments,
+/// Where natives have one answer to one question, what each form of `run` comes to is determined by their arguments,
 /// unless memory runs out: one refusal, or runs of which the one wrote a prefix of what the other did, and the same
 /// where both took all events; where one did, the other wasn't stopped by the limit of rules. A run with a certificate
 /// stops for nothing else but memory: so where one is whole each other one is, or had no memory.
 pub fn one_run_outcome<N: Answering>(_natives: &N)
     ensures checked { OneRunOutcome N.gives }
+    ensures settling { OneSettlingRunOutcome N.gives }
     ensures unchecked { OneUncheckedOutcome N.gives }
 {}
 

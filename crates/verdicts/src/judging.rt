@@ -1,21 +1,27 @@
 //! The verdict on a program and its certificate.
 
 ghost use Rattle.std.specs.Prelude.{◌≡◌, ◌≢◌, ◌<◌, ◌⊎◌, ◌↔◌, [], All, IsTrue, IsFalse, IfOk, MatchOption, count_by};
-ghost use Rattle.program_commands.specs.Commands.{CertifyComesTo, CheckComesTo};
+ghost use Rattle.program_commands.specs.Commands.{CheckComesTo};
 ghost use Rattle.program_commands.specs.Outcomes.{outcome_status};
 ghost use Rattle.verdicts.specs.Accepted.{is_accepted, IsClean};
+ghost use Rattle.verdicts.specs.Settled.{is_cycle, CertifiesOrSettles};
 ghost use Rattle.verdicts.specs.Statuses.{HasStatus, IsRefusedAs};
 
 use crate::certificate::gather_certificate;
 use crate::judged::judged_finding;
-use crate::program::{Located, ProgramPlaces, ReadText, gather_program, program_remarks};
+use crate::program::{
+    Located, ProgramPlaces, ReadText, gather_program, program_remarks, settled_remarks,
+};
 use crate::refusal::{add_further, refusal_finding};
 use class_lang::{Limits, read_within};
 use effect_scan::Scan;
 use findings::{Edge, Finding, FindingSeverity, LevelChange, Levels, PlacedEdge, Rule, Verdict};
 use meta_model::Meta;
 use meta_objects::FromProgram;
-use program_commands::{Outcome, Refusal, certify_outcome, check_outcome};
+use program_commands::{
+    Outcome, Refusal, SettlingOutcome, Why, certify_outcome, certify_settling_outcome,
+    check_outcome,
+};
 use program_flaws::ProgramSource;
 use std::alloc::{AllocError, Global};
 use syntax_trees::Program;
@@ -54,9 +60,10 @@ pub struct AcceptedEdges<'l> {
 /// that loads each wire that doesn't fit, each member and binding that isn't typed, one cycle of each set of members that all
 /// lead to one another, by each edge, what deletes an object while a slot, a native or a signal of it is active, one chain that is too long,
 /// and what is worth a warning or a note; then what the check says of the certificate. Each is as grave as the levels say, and cycles
-/// on the list are counted alone. The exit status is 2 where a text is refused, else 3 where an error is found and 0 where none
-/// is. Where the levels are those of the table it is that of `check`, or that of `certify` where no certificate is given, but 0
-/// where all errors that are found are accepted. Its error is that memory was refused.
+/// on the list are counted alone. Where no certificate is given and the program has a settling one, its cycles are notes. The exit
+/// status is 2 where a text is refused, else 3 where an error is found and 0 where none is. Where the levels are those of the table
+/// it is that of `check`, or where no certificate is given that of `certify`, or of `certify --settling` where `certify` names a cycle
+/// and that makes a certificate; but 0 where all errors that are found are accepted. Its error is that memory was refused.
 pub fn verdict(
     alloc: Global,
     limits: Limits,
@@ -66,12 +73,12 @@ pub fn verdict(
 ) -> Result<Verdict, AllocError>
     ensures status { IfOk result (λ verdict. levels.entry.changes.now ≡ [] → (verdict.accepted ≡ 0 ⊎ verdict.status ≢ 0) → HasStatus
         (λ outcome. MatchOption texts.entry.certificate
-        (CertifyComesTo limits texts.entry.program.now outcome)
+        (CertifiesOrSettles limits texts.entry.program.now outcome)
         (λ certificate. CheckComesTo limits texts.entry.program.now certificate.now outcome))
         verdict.status) }
     ensures refused { IfOk result (λ verdict. IsRefusedAs
         (λ outcome. MatchOption texts.entry.certificate
-        (CertifyComesTo limits texts.entry.program.now outcome)
+        (CertifiesOrSettles limits texts.entry.program.now outcome)
         (λ certificate. CheckComesTo limits texts.entry.program.now certificate.now outcome))
         verdict.status) }
     ensures accepted { IfOk result (λ verdict. verdict.accepted ≡ count_by (is_accepted listed.entry.edges.now) verdict.edges.items) }
@@ -131,6 +138,9 @@ fn certified_remarks(
     let (meta, scan) = match judged {
         Outcome::Certificate(certified) => (certified.meta(), &certified.ranks().scan),
         Outcome::Valid(checked) => (checked.meta(), checked.scan()),
+        Outcome::Settling(SettlingOutcome::Certificate(meta, certificate)) => {
+            return settling_remarks(alloc, texts.program, meta, certificate.as_slice(), levels);
+        }
         _ => return Ok(Vec::new(alloc)),
     };
     let found = remarks_by(alloc, b"", meta, scan, levels)?;
@@ -138,6 +148,21 @@ fn certified_remarks(
         return Ok(found);
     }
     remarks_by(alloc, texts.program, meta, scan, levels)
+}
+
+/// What is worth a warning or a note in the program of this text, which has this settling certificate.
+fn settling_remarks(
+    alloc: Global,
+    text: &[u8],
+    meta: &Meta,
+    certificate: &[u8],
+    levels: Levels<'_>,
+) -> Result<Vec<Finding>, AllocError> {
+    let Some(read) = ReadText::of(alloc, text)? else {
+        return Ok(Vec::new(alloc));
+    };
+    let located = read.located(alloc, meta, levels);
+    settled_remarks(located, certificate)
 }
 
 /// What is worth a warning or a note in the program of these nodes and edges, with the places and names that this text has.
@@ -295,15 +320,41 @@ fn is_changed(changes: &[LevelChange], rule: Rule) -> bool
     false
 }
 
-/// What `check` comes to, or where no certificate is given `certify`.
+/// What `check` comes to; where no certificate is given `certify`, or `certify --settling` where that makes one.
 fn outcome(alloc: Global, limits: Limits, texts: Texts<'_>) -> Outcome
     ensures { MatchOption texts.entry.certificate
-        (CertifyComesTo limits texts.entry.program.now result)
+        (CertifiesOrSettles limits texts.entry.program.now result)
         (λ certificate. CheckComesTo limits texts.entry.program.now certificate.now result) }
 {
     match texts.certificate {
         Some(certificate) => check_outcome(alloc, limits, texts.program, certificate),
-        None => certify_outcome(alloc, limits, texts.program),
+        None => certificate_outcome(alloc, limits, texts.program),
+    }
+}
+
+/// What `certify` comes to; but where that is a cycle what `certify --settling` does, unless that has a reason too.
+fn certificate_outcome(alloc: Global, limits: Limits, program: &[u8]) -> Outcome
+    ensures { CertifiesOrSettles limits program.now result }
+{
+    let certified = certify_outcome(alloc, limits, program);
+    if !is_cycle(&certified) {
+        return certified;
+    }
+    let settled = certify_settling_outcome(alloc, limits, program);
+    if settled.status() == FOUND {
+        certified
+    } else {
+        settled
+    }
+}
+
+/// Whether a cycle is why no certificate was made.
+fn is_cycle(outcome: &Outcome) -> bool
+    ensures { result ≡ is_cycle outcome.now }
+{
+    match outcome {
+        Outcome::Uncertified(_, Why::Cycle(_)) => true,
+        _ => false,
     }
 }
 

@@ -9,6 +9,7 @@ mod places;
 mod posts;
 mod program;
 mod remarks;
+mod resting;
 mod search;
 mod sentences;
 mod turns;
@@ -16,7 +17,7 @@ mod typing_flaws;
 mod walks;
 
 pub use places::{DeclaredMember, Located, ProgramPlaces, ReadText};
-pub use program::{gather_program, program_errors, program_remarks};
+pub use program::{gather_program, program_errors, program_remarks, settled_remarks};
 pub use sentences::MessageWithHelp;
 pub use walks::{
     DirectedGraph, Hop, Hops, components, components_of_nodes, is_marked, marks, set_mark,

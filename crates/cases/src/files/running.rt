@@ -19,7 +19,7 @@ pub struct CaseAnswer {
 }
 
 /// What a case's command line answers; `None` where it needs a certificate, the case has none, and `certify` gives none for
-/// its program.
+/// its program, or for words with `--settling` `certify --settling`.
 pub fn run_answer(
     alloc: Global,
     case: &Case<'_>,
@@ -32,7 +32,12 @@ pub fn run_answer(
         return Ok(Some(answer));
     }
     let program = input_of(alloc, case, &["certify"], None)?;
-    let made = answer_on(alloc, case, &["certify"], program.as_slice())?;
+    let certifies: &[&str] = if words.contains(&"--settling") {
+        &["certify", "--settling"]
+    } else {
+        &["certify"]
+    };
+    let made = answer_on(alloc, case, certifies, program.as_slice())?;
     if made.status != 0 {
         return Ok(None);
     }

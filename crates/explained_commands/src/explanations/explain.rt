@@ -6,7 +6,10 @@ use effect_scan::{Member, Node};
 use findings::{FileNames, FindingSeverity, push_finding};
 use meta_model::Meta;
 use program_commands::{Outcome, Refusal, SettlingOutcome, Why};
-use program_flaws::{FurtherFlaw, declaration_flaw, further_declaration_flaws, native_flaw};
+use program_flaws::{
+    FurtherFlaw, ProgramSource, declaration_flaw, declarations_of, further_declaration_flaws,
+    native_flaw, unsettled_text,
+};
 use rank_check::{Denied, No};
 use script_lang::ScriptFault;
 use std::alloc::{AllocError, Global};
@@ -38,10 +41,12 @@ pub fn push_outcome(
         Outcome::Uncertified(meta, why) => {
             push_missing(text, alloc, input, meta, meaning_of_reason(why))
         }
+        Outcome::Settling(SettlingOutcome::Uncertified(meta, Why::Cycle(nodes))) => {
+            push_unsettled(text, alloc, input, meta, nodes.as_slice())
+        }
         Outcome::Settling(SettlingOutcome::Uncertified(meta, why)) => {
             push_missing(text, alloc, input, meta, meaning_of_unsettled(why))
         }
-        Outcome::Settling(SettlingOutcome::Invalid(no)) => push_invalid(text, no),
         _ => Ok(()),
     }
 }
@@ -84,6 +89,9 @@ fn push_refusal(
     let Some(number) = refusal.number() else {
         return Ok(());
     };
+    if let Refusal::Unsettled(no) = refusal {
+        return push_invalid(text, no);
+    }
     let about = meaning(number).unwrap_or("");
     if let Refusal::Check(denied) = refusal {
         if let Some(input) = input {
@@ -143,7 +151,9 @@ fn further_flaws(alloc: Global, source: &[u8], refusal: &Refusal) -> Result<Vec<
 fn text_at_fault(refusal: &Refusal) -> TextKind {
     match refusal {
         Refusal::Text(_) | Refusal::Loading(_) | Refusal::Natives(_) => TextKind::Program,
-        Refusal::Certificate(_) | Refusal::Check(_) => TextKind::Certificate,
+        Refusal::Certificate(_) | Refusal::Check(_) | Refusal::Unsettled(_) => {
+            TextKind::Certificate
+        }
         Refusal::Script(_) => TextKind::Script,
     }
 }
@@ -165,7 +175,7 @@ fn flaw_of(
         Refusal::Certificate(_) => certificate_flaw(alloc, source),
         Refusal::Script(ScriptFault::BadLine(line)) => script_flaw(alloc, source, *line),
         Refusal::Script(_) => script_size_flaw(alloc, source),
-        Refusal::Check(_) => Ok(None),
+        Refusal::Check(_) | Refusal::Unsettled(_) => Ok(None),
     }
 }
 
@@ -175,7 +185,7 @@ fn push_missing(
     alloc: Global,
     input: Option<&[u8]>,
     meta: &Meta,
-    about: Option<&'static str>,
+    about: Option<&str>,
 ) -> Result<(), AllocError> {
     let Some(about) = about else {
         return Ok(());
@@ -184,6 +194,46 @@ fn push_missing(
         push_errors(text, alloc, input, meta, None)?;
     }
     writeln!(text, "no certificate: {about}")
+}
+
+/// Adds why a program has no settling certificate that has this circle, and what stands against it that the circle comes to rest.
+fn push_unsettled(
+    text: &mut String,
+    alloc: Global,
+    input: Option<&[u8]>,
+    meta: &Meta,
+    nodes: &[Node],
+) -> Result<(), AllocError> {
+    let mut about = String::from_str(alloc, "there is a circle that doesn't settle")?;
+    if let Some(against) = obstacle_of(alloc, input, meta, nodes)? {
+        write!(about, ": {against}, or make a wire `queued`")?;
+    }
+    push_missing(text, alloc, input, meta, Some(about.as_str()))
+}
+
+/// What stands against that, where the input is known.
+fn obstacle_of(
+    alloc: Global,
+    input: Option<&[u8]>,
+    meta: &Meta,
+    nodes: &[Node],
+) -> Result<Option<String>, AllocError> {
+    let Some(input) = input else {
+        return Ok(None);
+    };
+    let spans = text_spans(alloc, input)?;
+    let Some(span) = TextKind::Program.span(spans.as_slice()) else {
+        return Ok(None);
+    };
+    let Some(program) = declarations_of(alloc, source_of(input, span))? else {
+        return Ok(None);
+    };
+    let source = ProgramSource {
+        alloc,
+        program: &program,
+        meta,
+    };
+    unsettled_text(source, nodes)
 }
 
 /// Adds the errors that `verdict` finds in the input's program, which loads as this, and in the certificate that was denied.
@@ -252,9 +302,6 @@ fn meaning_of_reason(why: &Why) -> Option<&'static str> {
 /// The same of a reason why no settling certificate was made.
 fn meaning_of_unsettled(why: &Why) -> Option<&'static str> {
     match why {
-        Why::Cycle(_) => Some(
-            "there is a circle that doesn't settle: its first node carries no value, its first edge doesn't hand it on, or none of its nodes is a property",
-        ),
         Why::TooHigh(nodes) if nodes.is_empty() => Some(
             "along circles and behind them ranks or steps grow too great",
         ),

@@ -7,7 +7,7 @@ use texts::{MOST_DEPTH, number, split_line};
 
 /// The commands, as a person writes them.
 const COMMANDS: &str =
-    "commands, and the texts of their input, with a line `%%` between two of them:\n  meta                                a program\n  certify [--settling]                a program\n  check [--settling]                  a program, a certificate\n  run [--steps M]                     a program, a certificate, a script\n  run --unchecked N [--steps M]       a program, a script\nN is from 1 to 256, M from 1 to 9223372036854775807.\n";
+    "commands, and the texts of their input, with a line `%%` between two of them:\n  meta                                a program\n  certify [--settling]                a program\n  check [--settling]                  a program, a certificate\n  run [--settling] [--steps M]        a program, a certificate, a script\n  run --unchecked N [--steps M]       a program, a script\nN is from 1 to 256, M from 1 to 9223372036854775807.\n";
 
 /// Adds what is wrong with these words or with this input, and the list of the commands.
 pub fn push_usage(
@@ -78,9 +78,7 @@ fn mistake(words: &[&str]) -> &'static str {
 /// What is wrong with the words behind `run`.
 fn mistake_in_run(options: &[&str]) -> &'static str {
     match options.split_first() {
-        Some((first, _)) if *first == "--settling" => {
-            "`run` takes no settling certificate yet: that runs keep to one isn't proved"
-        }
+        Some((first, others)) if *first == "--settling" => mistake_in_steps(others),
         Some((first, others)) if *first == "--unchecked" => match others.split_first() {
             Some((depth, steps)) if is_number(depth, u64::from(MOST_DEPTH)) => mistake_in_steps(
                 steps,
@@ -97,7 +95,7 @@ fn mistake_in_steps(words: &[&str]) -> &'static str {
         [option, _] if *option == "--steps" => {
             "behind `--steps` stands a number from 1 to 9223372036854775807"
         }
-        _ => "the words stand in this order: `run`, `--unchecked N`, `--steps M`",
+        _ => "the words stand in this order: `run`, `--settling` or `--unchecked N`, `--steps M`",
     }
 }
 

@@ -15,7 +15,7 @@ const MOST_OF_LINE: usize = 160;
 
 /// What is reported of a fault that ended a run, behind what the fault means: the event at which it came, with its line; what
 /// that event had begun; and what to do. `begun` is what was written down since the last whole event, and `last` is what was
-/// for that one. Where the input isn't known no line is reported.
+/// for that one; the program may have had a settling certificate. Where the input isn't known no line is reported.
 ///
 /// An event's first entry is written as it is taken. So a fault came in the event that `begun` begins with, or, where it is
 /// empty, as the one behind the last whole event was to be taken (docs/machine.md, "Faults").
@@ -25,6 +25,7 @@ pub fn fault_report(
     begun: &[Entry],
     last: &[Entry],
     fault: Fault,
+    is_settling: bool,
 ) -> Result<String, AllocError> {
     let mut text = String::new(alloc);
     let script = match input {
@@ -44,7 +45,7 @@ pub fn fault_report(
             push_event(&mut text, alloc, script, event, sentence)?;
         }
     }
-    if let Some(advice) = advice(fault) {
+    if let Some(advice) = advice(fault, is_settling) {
         writeln!(&mut text, "help: {advice}")?;
     }
     Ok(text)
@@ -129,9 +130,12 @@ fn put_line(
     }
 }
 
-/// What to do about a fault.
-fn advice(fault: Fault) -> Option<&'static str> {
+/// What to do about a fault of a run, with a settling certificate or without one.
+fn advice(fault: Fault, is_settling: bool) -> Option<&'static str> {
     match fault {
+        Fault::TooDeep if is_settling => Some(
+            "at most 256 activations nest: with a settling certificate that is enough where its bound, and its step for each object, are no more; a `queued` wire on the circle, or fewer objects, need less",
+        ),
         Fault::BadType => Some(
             "`certify` says without a run which literal, body or binding gives a value where another type is asked",
         ),

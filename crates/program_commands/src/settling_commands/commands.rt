@@ -6,14 +6,13 @@ ghost use Rattle.program_commands.specs.Settling.{Certifies, CertifySettlingCome
 
 use crate::loading::load_program;
 use crate::outcome::Outcome;
-use crate::settling_commands::loading::load_settling;
+use crate::settling_commands::loading::load_settled;
 use crate::settling_commands::outcome::SettlingOutcome;
 use crate::settling_commands::told::told_reason;
 use class_lang::Limits;
 use command_lines::WriteFault;
 use meta_model::Meta;
 use rank_make::Why;
-use settling::check;
 use settling_make::make;
 use settling_texts::settling_text;
 use sqlite_items::Items;
@@ -74,13 +73,9 @@ pub fn check_settling_outcome(
 ) -> Outcome
     ensures { CheckSettlingComesTo limits program.now certificate.now result }
 {
-    let (meta, certificate) = match load_settling(alloc, limits, program, certificate) {
-        Ok(both) => both,
-        Err(refusal) => return Outcome::Refused(refusal),
-    };
-    match check(alloc, meta, certificate) {
+    match load_settled(alloc, limits, program, certificate) {
         Ok(checked) => Outcome::Settling(SettlingOutcome::Valid(checked)),
-        Err(reason) => Outcome::Settling(SettlingOutcome::Invalid(reason)),
+        Err(refusal) => Outcome::Refused(refusal),
     }
 }
 

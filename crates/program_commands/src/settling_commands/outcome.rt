@@ -6,10 +6,8 @@ ghost use Rattle.program_commands.specs.Outcomes.{settling_text, settling_status
 
 use crate::outcome::DONE;
 use crate::reasons::{put_reason, status_of_reason};
-use crate::refusal::{DENIED, put_line, status_or_undone};
 use command_lines::Output;
 use meta_model::Meta;
-use rank_check::No;
 use rank_make::Why;
 use settling::Checked;
 use sqlite_items::Items;
@@ -22,14 +20,12 @@ pub enum SettlingOutcome {
     Certificate(Meta, Items<u8>),
     /// No settling certificate was made for this program, for this reason.
     Uncertified(Meta, Why),
-    /// The settling certificate isn't valid for the program.
-    Invalid(No),
     /// The settling certificate is valid for the program.
     Valid(Checked),
 }
 
 impl SettlingOutcome {
-    /// The exit status: 0 where the command did what it was asked, 3 where no certificate was made or this one isn't valid, 1
+    /// The exit status: 0 where the command did what it was asked, 3 where no certificate was made, 1
     /// where memory ran out.
     pub fn status(&self) -> u8
         ensures { result ≡ settling_status self.now }
@@ -37,7 +33,6 @@ impl SettlingOutcome {
         match self {
             SettlingOutcome::Certificate(_, _) | SettlingOutcome::Valid(_) => DONE,
             SettlingOutcome::Uncertified(_, why) => status_of_reason(why),
-            SettlingOutcome::Invalid(reason) => status_or_undone(DENIED, reason.number()),
         }
     }
 
@@ -48,7 +43,6 @@ impl SettlingOutcome {
         match self {
             SettlingOutcome::Certificate(_, text) => output.put(text.as_slice()),
             SettlingOutcome::Uncertified(meta, why) => put_reason(output, meta, why),
-            SettlingOutcome::Invalid(reason) => put_line(output, b"no ", reason.number()),
             SettlingOutcome::Valid(_) => output.put(b"yes\n"),
         }
     }

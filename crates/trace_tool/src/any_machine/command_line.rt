@@ -15,7 +15,7 @@ ghost use Rattle.trace_tool.specs.declared.any_machine.prepared.Prepared.TheVari
 use crate::any_machine::natives::FittingNatives;
 use crate::any_machine::outcome::Outcome;
 use crate::any_machine::prepared::{Carried, Prepared};
-use crate::any_machine::runs::{prepare_run, prepare_unchecked_run};
+use crate::any_machine::runs::{prepare_run, prepare_settling_run, prepare_unchecked_run};
 use class_lang::Limits;
 use command_lines::{
     Command, CommandLine, Failing, InputFault, LARGEST_INPUT, UsageFault, one_text, read_input,
@@ -180,6 +180,18 @@ fn prepare<N: FittingNatives, M: ObjectMachine<Natives = N>>(
             Some((program, certificate, script)) => {
                 prepare_run(alloc, limits, program, certificate, script, natives, steps)
             }
+            None => Prepared::Done(Outcome::Usage(UsageFault::Texts(3))),
+        },
+        Command::RunSettling(steps) => match three_texts(input) {
+            Some((program, certificate, script)) => prepare_settling_run(
+                alloc,
+                limits,
+                program,
+                certificate,
+                script,
+                natives,
+                steps,
+            ),
             None => Prepared::Done(Outcome::Usage(UsageFault::Texts(3))),
         },
         Command::RunUnchecked(options) => match two_texts(input) {

@@ -1,21 +1,26 @@
 //! Cycles: members that may lead to one another without end.
 
 use crate::program::places::Located;
+use crate::program::resting::obstacles;
 use crate::program::search::ProgramSearch;
 use crate::program::sentences::{BINDINGS_MAY_BE_FALSE, MAY_BE_FALSE, doubted_help, push_names};
 use crate::program::walks::{DirectedGraph, components, components_of_nodes};
 use effect_scan::{Member, Node};
 use findings::{ChainStep, Edge, Finding, JudgedText, Link, PlacedEdge, Rule, TextPlace, Verdict};
-use program_flaws::node_text;
+use program_flaws::{Obstacle, node_text, obstacle_along, obstacle_text};
 use std::alloc::AllocError;
 use std::collections::BTreeSet;
 
 /// So many cycles of one strongly connected component are told.
-const MOST_CYCLES: usize = 10;
+pub const MOST_CYCLES: usize = 10;
+
+/// What is said of a cycle against which nothing stands.
+const COMES_TO_REST: &str =
+    "this comes to rest by itself, as one value is handed on unchanged: `certify --settling` takes it";
 
 /// The edges of a program's bindings, and their strongly connected components.
 #[derive(Drop)]
-struct BindingEdges {
+pub struct BindingEdges {
     graph: DirectedGraph,
     components: Vec<Vec<usize>>,
     /// For each node the component that it is in.
@@ -24,7 +29,7 @@ struct BindingEdges {
 
 impl BindingEdges {
     /// Those of the program.
-    fn of(search: ProgramSearch<'_>) -> Result<BindingEdges, AllocError> {
+    pub fn of(search: ProgramSearch<'_>) -> Result<BindingEdges, AllocError> {
         let nodes = search.scan.nodes();
         let mut graph = DirectedGraph::without_edges(search.graph.alloc, nodes.len())?;
         for component in search.components {
@@ -53,7 +58,7 @@ impl BindingEdges {
 }
 
 /// Whether the node is a property.
-fn is_property(nodes: &[Node], number: usize) -> bool {
+pub fn is_property(nodes: &[Node], number: usize) -> bool {
     match nodes.get(number) {
         Some(node) => matches!(node.member, Member::Property(_)),
         None => false,
@@ -61,7 +66,7 @@ fn is_property(nodes: &[Node], number: usize) -> bool {
 }
 
 /// The component in which both nodes are.
-fn same_component(places: &[Option<usize>], from: usize, to: usize) -> Option<usize> {
+pub fn same_component(places: &[Option<usize>], from: usize, to: usize) -> Option<usize> {
     let place = (*places.get(from)?)?;
     if (*places.get(to)?)? == place {
         Some(place)
@@ -79,6 +84,7 @@ pub fn gather_cycles(
 ) -> Result<(), AllocError> {
     let bindings = BindingEdges::of(search)?;
     let places = components_of_nodes(search.graph, search.components)?;
+    let obstacles = obstacles(search, places.as_slice())?;
     for (place, component) in search.components.iter().enumerate() {
         let mut left = Vec::new(search.graph.alloc);
         let before = found.edges.len();
@@ -96,6 +102,7 @@ pub fn gather_cycles(
             search,
             bindings: &bindings,
             component: component.as_slice(),
+            obstacle: obstacles.get(place).copied().flatten(),
             has_accepted: found.edges.len().saturating_sub(before) > left.len(),
         };
         told.gather(left.as_slice(), found)?;
@@ -132,12 +139,14 @@ fn add_edge(
 
 /// A component of which cycles are told.
 #[derive(Clone, Copy)]
-struct ComponentCycles<'t> {
-    search: ProgramSearch<'t>,
-    bindings: &'t BindingEdges,
-    component: &'t [usize],
+pub struct ComponentCycles<'t> {
+    pub search: ProgramSearch<'t>,
+    pub bindings: &'t BindingEdges,
+    pub component: &'t [usize],
+    /// What stands against it that it comes to rest.
+    pub obstacle: Option<Obstacle>,
     /// Whether some of its edges are accepted.
-    has_accepted: bool,
+    pub has_accepted: bool,
 }
 
 impl ComponentCycles<'_> {
@@ -151,17 +160,26 @@ impl ComponentCycles<'_> {
                 let Some(severity) = found.taken(self.search.located.levels.of(Rule::Cycle)) else {
                     return Ok(());
                 };
-                let numbers = self.cycle_by(*edge)?;
-                for pair in numbers.iter().zip(numbers.iter().skip(1)) {
-                    let (from, to) = pair;
-                    passed.insert((*from, *to))?;
-                }
-                let cycle = self.search.nodes_at(numbers.as_slice())?;
+                let cycle = self.pass(*edge, &mut passed)?;
                 let finding = self.finding(cycle.as_slice())?;
                 found.push(severity, finding)?;
             }
         }
         Ok(())
+    }
+
+    /// The nodes of a shortest cycle that begins with the edge. Its edges are passed then.
+    pub fn pass(
+        &self,
+        edge: (usize, usize),
+        passed: &mut BTreeSet<(usize, usize)>,
+    ) -> Result<Vec<Node>, AllocError> {
+        let numbers = self.cycle_by(edge)?;
+        for pair in numbers.iter().zip(numbers.iter().skip(1)) {
+            let (from, to) = pair;
+            passed.insert((*from, *to))?;
+        }
+        self.search.nodes_at(numbers.as_slice())
     }
 
     /// A shortest cycle that begins with the edge: by bindings alone where there is one.
@@ -182,7 +200,7 @@ impl ComponentCycles<'_> {
             has_link(chain.as_slice(), Link::Wire),
             has_link(chain.as_slice(), Link::Binding),
         );
-        let help = doubted_help(alloc, advice, doubt(cycle))?;
+        let help = self.help(cycle, advice)?;
         // Where others are accepted it is told by the edge that isn't.
         let place = if self.has_accepted {
             chain.first().and_then(|step: &ChainStep| step.place)
@@ -198,18 +216,30 @@ impl ComponentCycles<'_> {
             chain,
         })
     }
+
+    /// What to do about a cycle of these nodes, which this advice breaks; and whether it comes to rest by itself, or what stands
+    /// against that: on the cycle, or else in its component.
+    fn help(&self, cycle: &[Node], advice: &str) -> Result<Option<String>, AllocError> {
+        let source = self.search.located.source;
+        let alloc = source.alloc;
+        if is_bound(cycle) {
+            return doubted_help(alloc, advice, BINDINGS_MAY_BE_FALSE);
+        }
+        let Some(obstacle) = obstacle_along(source.meta, cycle).or(self.obstacle) else {
+            let help = format!(in alloc; "{COMES_TO_REST}; or {advice}")?;
+            return Ok(Some(help));
+        };
+        let obstacle = obstacle_text(source, obstacle)?;
+        let advice = format!(in alloc; "{advice}. It isn't seen to come to rest: {obstacle}")?;
+        doubted_help(alloc, advice.as_str(), MAY_BE_FALSE)
+    }
 }
 
-/// Why a cycle of these nodes may be a false alarm.
-fn doubt(cycle: &[Node]) -> &'static str {
-    let is_bound = cycle
+/// Whether a cycle of these nodes is one of bindings alone.
+fn is_bound(cycle: &[Node]) -> bool {
+    cycle
         .iter()
-        .all(|node: &Node| matches!(node.member, Member::Property(_)));
-    if is_bound {
-        BINDINGS_MAY_BE_FALSE
-    } else {
-        MAY_BE_FALSE
-    }
+        .all(|node: &Node| matches!(node.member, Member::Property(_)))
 }
 
 /// What a cycle means, and which members are on it, that are some of so many which all lead to one another.
@@ -243,7 +273,7 @@ fn breaking(is_wired: bool, is_bound: bool) -> &'static str {
 }
 
 /// Where a cycle is reported: at its first wire, where it has one.
-fn place_in(chain: &[ChainStep]) -> Option<TextPlace> {
+pub fn place_in(chain: &[ChainStep]) -> Option<TextPlace> {
     let wire = chain
         .iter()
         .find(|step: &&ChainStep| step.link == Link::Wire);

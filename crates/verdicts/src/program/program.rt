@@ -5,6 +5,7 @@ use crate::program::cycles::gather_cycles;
 use crate::program::deletions::{Deletion, deletions, gather_deletions};
 use crate::program::places::Located;
 use crate::program::remarks::remarks;
+use crate::program::resting::add_settling_cycles;
 use crate::program::search::{ProgramGraph, ProgramSearch};
 use crate::program::typing_flaws::{gather_types, gather_wires};
 use crate::program::walks::DirectedGraph;
@@ -58,4 +59,19 @@ pub fn program_remarks(located: Located<'_>, scan: &Scan) -> Result<Vec<Finding>
     };
     let deletions = deletions(search)?;
     remarks(search, deletions.as_slice())
+}
+
+/// The same in a program that has this settling certificate: its cycles come to rest, and each is told.
+pub fn settled_remarks(
+    located: Located<'_>,
+    certificate: &[u8],
+) -> Result<Vec<Finding>, AllocError> {
+    let graph = ProgramGraph::of(located)?;
+    let search = graph.search(located);
+    let mut found = Vec::new(located.source.alloc);
+    add_settling_cycles(search, certificate, &mut found)?;
+    let deletions = deletions(search)?;
+    let mut others = remarks(search, deletions.as_slice())?;
+    found.append(&mut others)?;
+    Ok(found)
 }

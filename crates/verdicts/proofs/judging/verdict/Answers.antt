@@ -1,16 +1,17 @@
 use Rattle.std.proofs.Common.{◌≡◌, ◌≢◌, ◌⊎◌, ◌↔◌, [], MatchOption, sym, ◌∙◌, arith}
 use Rattle.std.proofs.lemmas.Result.{IfOk-weaker}
 use Rattle.findings.specs.declared.verdict.Verdict.{Verdict}
-use Rattle.program_commands.specs.Commands.{CertifyComesTo, CheckComesTo}
+use Rattle.program_commands.specs.Commands.{CheckComesTo}
 use Rattle.program_commands.specs.Outcomes.{outcome_status}
 use Rattle.program_commands.specs.declared.outcome.Outcome.{Outcome}
+use Rattle.verdicts.specs.Settled.{CertifiesOrSettles}
 use Rattle.verdicts.specs.Statuses.{HasStatus, IsRefusedAs}
 use Rattle.verdicts.proofs.judging.verdict.Goals as goal
 
 pub returns-clause-status : goal.returns-clause-status
 returns-clause-status c =
     let ComesTo : Outcome → Type 0 = λ outcome.
-    MatchOption c.args.texts.certificate (CertifyComesTo c.args.limits c.args.texts.program.now outcome) (λ certificate. CheckComesTo c.args.limits c.args.texts.program.now certificate.now outcome) in
+    MatchOption c.args.texts.certificate (CertifiesOrSettles c.args.limits c.args.texts.program.now outcome) (λ certificate. CheckComesTo c.args.limits c.args.texts.program.now certificate.now outcome) in
     IfOk-weaker c.search.result
     (λ (found : Verdict). c.args.levels.changes.now ≡ [] → (found.accepted ≡ 0 ⊎ found.status ≢ 0) → found.status ≡ outcome_status c.outcome-judged.result)
     (λ (found : Verdict). c.args.levels.changes.now ≡ [] → (found.accepted ≡ 0 ⊎ found.status ≢ 0) → HasStatus ComesTo found.status)
@@ -20,7 +21,7 @@ returns-clause-status c =
 pub returns-clause-refused : goal.returns-clause-refused
 returns-clause-refused c =
     let ComesTo : Outcome → Type 0 = λ outcome.
-    MatchOption c.args.texts.certificate (CertifyComesTo c.args.limits c.args.texts.program.now outcome) (λ certificate. CheckComesTo c.args.limits c.args.texts.program.now certificate.now outcome) in
+    MatchOption c.args.texts.certificate (CertifiesOrSettles c.args.limits c.args.texts.program.now outcome) (λ certificate. CheckComesTo c.args.limits c.args.texts.program.now certificate.now outcome) in
     IfOk-weaker c.search.result
     (λ (found : Verdict). outcome_status c.outcome-judged.result ≡ 2 ↔ found.status ≡ 2)
     (λ (found : Verdict). IsRefusedAs ComesTo found.status)
@@ -30,7 +31,7 @@ returns-clause-refused c =
 pub returns-in-0-clause-status : goal.returns-in-0-clause-status
 returns-in-0-clause-status c =
     let ComesTo : Outcome → Type 0 = λ outcome.
-    MatchOption c.args.texts.certificate (CertifyComesTo c.args.limits c.args.texts.program.now outcome) (λ certificate. CheckComesTo c.args.limits c.args.texts.program.now certificate.now outcome) in
+    MatchOption c.args.texts.certificate (CertifiesOrSettles c.args.limits c.args.texts.program.now outcome) (λ certificate. CheckComesTo c.args.limits c.args.texts.program.now certificate.now outcome) in
     IfOk-weaker c.remark.result
     (λ (found : Verdict). c.args.levels.changes.now ≡ [] → found.status ≡ 0)
     (λ (found : Verdict). c.args.levels.changes.now ≡ [] → (found.accepted ≡ 0 ⊎ found.status ≢ 0) → HasStatus ComesTo found.status)
@@ -40,7 +41,7 @@ returns-in-0-clause-status c =
 pub returns-in-0-clause-refused : goal.returns-in-0-clause-refused
 returns-in-0-clause-refused c =
     let ComesTo : Outcome → Type 0 = λ outcome.
-    MatchOption c.args.texts.certificate (CertifyComesTo c.args.limits c.args.texts.program.now outcome) (λ certificate. CheckComesTo c.args.limits c.args.texts.program.now certificate.now outcome) in
+    MatchOption c.args.texts.certificate (CertifiesOrSettles c.args.limits c.args.texts.program.now outcome) (λ certificate. CheckComesTo c.args.limits c.args.texts.program.now certificate.now outcome) in
     IfOk-weaker c.remark.result
     (λ (found : Verdict). found.status ≢ 2)
     (λ (found : Verdict). IsRefusedAs ComesTo found.status)

@@ -70,6 +70,16 @@ returns-in-Run g c =
     let few : length c.args.input.now ≤ 67108864 = omega (arith, c.if-input-gt-LARGEST_INPUT.false) in
     rw c.in-Run.is (done-now _ _ _ (fails (Texts 3) (few, refl, three_only _ (rw c.in-None-three_texts.is at c.three_texts.ensures.cut))))
 
+pub returns-in-Some-three_texts-2 : goal.returns-in-Some-three_texts-2
+returns-in-Some-three_texts-2 g c =
+    let few : length c.args.input.now ≤ 67108864 = omega (arith, c.if-input-gt-LARGEST_INPUT.false) in
+    rw c.in-RunSettling.is (prepares-as _ _ (λ end comes. goes_on (c.in-Some-three_texts-2.program.now ∷ c.in-Some-three_texts-2.certificate.now ∷ c.in-Some-three_texts-2.script.now ∷ []) _ (few, c.in-Some-three_texts-2.ensures.cut, refl) comes) c.prepare_settling_run.ensures)
+
+pub returns-in-RunSettling : goal.returns-in-RunSettling
+returns-in-RunSettling g c =
+    let few : length c.args.input.now ≤ 67108864 = omega (arith, c.if-input-gt-LARGEST_INPUT.false) in
+    rw c.in-RunSettling.is (done-now _ _ _ (fails (Texts 3) (few, refl, three_only _ (rw c.in-None-three_texts-2.is at c.three_texts-in-RunSettling.ensures.cut))))
+
 pub returns-in-Some-two_texts-3 : goal.returns-in-Some-two_texts-3
 returns-in-Some-two_texts-3 g c =
     let few : length c.args.input.now ≤ 67108864 = omega (arith, c.if-input-gt-LARGEST_INPUT.false) in

@@ -1,15 +1,8 @@
-use Rattle.std.proofs.Common.{◌≡◌, List, Err, refl, subst}
+use Rattle.std.proofs.Common.{refl}
 use Rattle.std.proofs.lemmas.Result.{err_from_is_err_and}
 use Rattle.program_commands.specs.Steps.{fails, goes_on}
-use Rattle.meta_model.specs.Loaded.{Loaded}
-use Rattle.native_slots.specs.declared.head.NativeHead.{NativeHead}
-use Rattle.native_slots.specs.declared.misfit.Misfit.{Misfit}
-use Rattle.native_slots.specs.Misfits.{Fits}
+use Rattle.trace_tool.proofs.Accepted.{unfit}
 use Rattle.trace_tool.proofs.any_machine.runs.accept.Goals as goal
-
--- the closures don't fit the program that was checked
-unfit : (heads : List NativeHead) (misfit : Misfit) {asked loaded : Loaded} → asked ≡ loaded → Fits heads asked (Err misfit) → Fits heads loaded (Err misfit)
-unfit heads misfit same fit = subst (λ (p : Loaded). Fits heads p (Err misfit)) same fit
 
 pub returns-in_err-meta-clause-accepting : goal.returns-in_err-meta-clause-accepting
 returns-in_err-meta-clause-accepting g c =
