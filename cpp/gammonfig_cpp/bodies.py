@@ -3,12 +3,13 @@ from __future__ import annotations
 
 from typing import Callable
 
-from .classes import OWNING
 from .comparing import Comparing
 from .conditional import Conditional
 from .context import Context
-from .libclang import FUNCTIONS, NAMES, RECORDS, VARIABLES, Cursor, K, T, bare, cindex, expressions, is_of_closure, is_pattern, quick, strip
+from .libclang import (FUNCTIONS, NAMES, RECORDS, TEMPLATES, VARIABLES, Cursor, K, T, bare, cindex, expressions, is_of_closure, is_pattern,
+                       quick, strip)
 from .model import Function, Value
+from .templates import has_types
 
 # What Q_OBJECT declares and defines.
 OF_MOC = {'tr', 'trUtf8', 'qt_metacall', 'qt_metacast', 'qt_static_metacall', 'metaObject', 'qt_check_for_QGADGET_macro'}
@@ -40,8 +41,7 @@ class Bodies:
         for inner in top.get_children():
             if self.context.is_inside(inner):
                 self.declaration(inner)
-        for cursor in self.closures:
-            self._closure(cursor)
+        self._all_closures()
         for record in self.context.classes.instances:
             for member in record.type.get_fields():
                 self._member(member)
@@ -51,12 +51,14 @@ class Bodies:
         if kind in (K.NAMESPACE, K.UNEXPOSED_DECL, K.LINKAGE_SPEC):
             for inner in cursor.get_children():
                 self.declaration(inner)
+        elif kind in TEMPLATES or is_pattern(cursor):
+            self.context.has_templates = True
         elif kind in RECORDS:
             self._record(cursor)
         elif kind in FUNCTIONS:
             if is_of_closure(cursor):
                 self.closures.append(cursor)
-            elif cursor.is_definition() and cursor.spelling not in OF_MOC and not is_pattern(cursor):
+            elif cursor.is_definition() and cursor.spelling not in OF_MOC:
                 self.definition(cursor)
         elif kind == K.VAR_DECL:
             self.variable(cursor)
@@ -67,10 +69,12 @@ class Bodies:
             return
         self.context.classes.note(cursor)
         for inner in cursor.get_children():
-            if inner.kind in RECORDS + FUNCTIONS:
+            if inner.kind in RECORDS + FUNCTIONS + TEMPLATES:
                 self.declaration(inner)
             elif inner.kind == K.FIELD_DECL:
                 self._member(inner)
+            elif inner.kind == K.FRIEND_DECL and any(friend.kind in TEMPLATES for friend in inner.get_children()):
+                self.context.has_templates = True
 
     def _member(self, cursor: Cursor) -> None:
         """A member variable: its initialiser, and that its object owns it where it holds one."""
@@ -91,7 +95,7 @@ class Bodies:
         if context.classes.is_value(cursor.type):
             site = context.site(key, cursor, cls, cursor.spelling)
             context.facts.owns.append((whole, site, context.place(cursor)))
-        elif context.classes.holder(cursor.type) in OWNING:
+        elif context.classes.owns(cursor.type):
             context.facts.owns.append((whole, Value('variable', key, cls), context.place(cursor)))
 
     # Functions
@@ -179,15 +183,28 @@ class Bodies:
         function = Function(key, f'lambda_{place.line}', shown, outer.cls if outer else context.outer, 'lambda', place, cursor.extent.end.line,
                             context.classes.parameters(formals))
         context.facts.functions[key] = function
-        if not any('type-parameter' in p.type for p in function.parameters):
+        if any('type-parameter' in p.type for p in function.parameters) or has_types(context.text(cursor)):
+            context.has_templates = True
+        else:
             self._lambda_body(function, cursor, formals)
         return key
 
-    def _closure(self, cursor: Cursor) -> None:
-        """A generic lambda does what its instances do."""
-        function = self.context.facts.functions.get(self.context.spot('L', cursor))
-        if function is not None:
-            self._lambda_body(function, cursor, list(cursor.get_arguments()))
+    def _all_closures(self) -> None:
+        """A generic lambda does what its instances do. One in another is met as that one's instance is read."""
+        waiting, count = self.closures, len(self.closures) + 1
+        while len(waiting) < count:
+            count, waiting = len(waiting), [cursor for cursor in waiting if not self._closure(cursor)]
+
+    def _closure(self, cursor: Cursor) -> bool:
+        """Reads an instance of a generic lambda, if that was met: in an instance of a template it is that one's own."""
+        context, around = self.context, cursor
+        while is_of_closure(around):
+            around = around.semantic_parent.semantic_parent
+        with context.as_instance(around, context.function_key(around) if around.kind in FUNCTIONS else ''):
+            function = context.facts.functions.get(context.spot('L', cursor))
+            if function is not None:
+                self._lambda_body(function, cursor, list(cursor.get_arguments()))
+        return function is not None
 
     def _lambda_body(self, function: Function, cursor: Cursor, formals: list[Cursor]) -> None:
         context = self.context
@@ -291,6 +308,7 @@ class Bodies:
 
     def _return(self, cursor: Cursor) -> None:
         context = self.context
+        context.calls.parting.end()
         for inner in expressions(cursor):
             self.release(inner)
             if 'QBindable' in inner.type.spelling:

@@ -1,13 +1,14 @@
 """Which functions a call may reach: virtual ones by the classes of the objects, Qt's own by the table."""
 from __future__ import annotations
 
-from typing import Collection
+from typing import Collection, Iterator
 
 from .deaths import Deaths
+from .editors import Editors
 from .model import Function, Parameter, Statement, Term, Value
 from .objects import FREE, Element
 from .program import Key, Member, Program, Step, Wire
-from .qtmodel import Entry, QtModel, Written
+from .qtmodel import EDITOR, Entry, QtModel, Written
 from .relations import Related
 from .replacing import Replacing
 
@@ -23,6 +24,7 @@ class Calling:
         self._present: dict[str, bool] = {}
         self.deaths = Deaths(program, self)
         self.replacing = Replacing(program, qt, self)
+        self.editors = Editors(self)
         # The classes to whose `destroyed` something is connected; complete once all wires are there.
         self.watched = Related(self.objects, {Element('class', self.objects.cls(e)) for c in self.whole.connects
                                               if c.signal.name.split('(')[0] == 'destroyed'
@@ -217,7 +219,18 @@ class Calling:
             if self.is_connected(Element('class', key)):
                 inner.append(Element('class', key))
             steps += [Step('call', program.emitter(usr), program.role(o)) for o in inner if usr is not None]
-        return list({s.same(): s for s in steps}.values())
+        return list({s.same(): s for s in [*steps, *self._wired(element, class_name, signal)]}.values())
+
+    def _wired(self, element: Element, class_name: str, signal: str) -> list[Step]:
+        """What Qt itself connects to a signal of an object that it made in this one, as the selection of a view to functions of the view, its
+        model, its delegate and its editor."""
+        cls, steps = self.objects.cls(element), list[Step]()
+        wires = [wire for wire in self.qt.table.wires if (wire.sender, wire.signal, wire.by) == (class_name, signal, '')]
+        own = [self.whole.is_named(cls, wire.receiver) for wire in wires]
+        for wire, is_own in zip(wires, own) if any(own) else ():
+            found = self.callbacks(element, wire.member if is_own else f'{wire.receiver}::{wire.member}')
+            steps += [Step('call', key, on, words=f'Qt connects {signal} to {wire.member}') for on, key in found]
+        return steps
 
     def _deletes(self, element: Element, name: str) -> list[Step]:
         """What a function of Qt deletes: the object itself, or what it owns of a class."""
@@ -278,14 +291,30 @@ class Calling:
     def is_connected(self, element: Element) -> bool:
         """Whether something is connected to an object of which it isn't known where it is made."""
         if self._connected is None:
-            self._connected = {w.sender for w in self.program.wires}
+            self._connected = set(self._of_senders())
         return element in self._connected
+
+    def _of_senders(self) -> Iterator[Element]:
+        """The classes of what is connected and isn't known. They are taken of the connections, since wires are still being made when this
+        is first asked."""
+        whole = self.whole
+        for connect in whole.connects:
+            signal, name = connect.signal, connect.signal.name.split('(')[0].strip()
+            for element in self.objects.elements(connect.sender, connect.sender_class):
+                if signal.kind == 'method' and not whole.is_a(self.objects.cls(element), signal.cls):
+                    yield Element('class', signal.cls)
+                elif element.kind == 'class':
+                    yield element
+                    if signal.kind != 'method':
+                        yield from (Element('class', b) for b in whole.below(element.key) if whole.signal(b, name) is not None)
 
     def callbacks(self, element: Element, name: str) -> list[tuple[Element, Key]]:
         """The application's functions that Qt calls back by a virtual function's name."""
         whole = self.whole
         if name.startswith('owned::'):
             return list(dict.fromkeys(t for o in sorted(self.owned(element)) for t in self.callbacks(o, name[7:])))
+        if name.startswith(f'{EDITOR}::'):
+            return list(dict.fromkeys(t for o in self.editors.all() for t in self.callbacks(o, name[len(EDITOR) + 2:])))
         if '::' in name:
             class_name, name = name.split('::')
             return [t for key in whole.by_name.get(class_name, ()) for t in self.callbacks(Element('class', key), name)]

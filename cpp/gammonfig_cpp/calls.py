@@ -9,6 +9,7 @@ from .holders import Holders
 from .keeping import OF_VALUES, Keeping
 from .libclang import FUNCTIONS, NAMES, RECORDS, VARIABLES, Cursor, K, T, bare, expressions, is_written, strip
 from .model import NONE, Condition, Construct, Forward, Named, Statement, Value
+from .parting import Parting
 from .possessing import Possessing
 from .special import Special
 
@@ -26,7 +27,7 @@ class Calls:
     def __init__(self, context: Context) -> None:
         self.context = context
         self.holders, self.keeping, self.possessing = Holders(context), Keeping(context), Possessing(context)
-        self.special = Special(context)
+        self.special, self.parting = Special(context), Parting(context)
 
     # The parts of a call
 
@@ -251,7 +252,8 @@ class Calls:
                 continue
             context.flow(slot, context.values.of(argument), cls)
             if at < len(formals) and self._goes_back(formals[at]):
-                variable = strip(argument).referenced
+                inner = strip(argument)
+                variable = (strip(expressions(inner)[0]) if inner.kind == K.UNARY_OPERATOR else inner).referenced
                 if variable is not None and variable.kind in (K.VAR_DECL, K.FIELD_DECL):
                     context.flow(context.variable_key(variable), Value('variable', slot, cls))
         if any(named) and call is not None:
@@ -273,11 +275,13 @@ class Calls:
 
     @staticmethod
     def _goes_back(formal: Cursor) -> bool:
-        """Whether a parameter is a pointer by reference, which the function may change for its caller."""
+        """Whether a parameter is a pointer, or what holds some, by reference or by address: the function may change it for its caller."""
         kind = formal.type.get_canonical()
-        if kind.kind != T.LVALUEREFERENCE:
+        if kind.kind not in (T.LVALUEREFERENCE, T.POINTER):
             return False
-        return bool(kind.get_pointee().kind == T.POINTER and not kind.get_pointee().is_const_qualified())
+        inner = kind.get_pointee()
+        holds = inner.kind == T.POINTER or inner.kind == T.RECORD and inner.get_declaration().spelling in SMART | CONTAINERS
+        return bool(holds and not inner.is_const_qualified())
 
     def initial(self, given: Cursor, on: Value) -> None:
         """The initialiser of an object: its constructor runs."""
@@ -316,7 +320,7 @@ class Calls:
                     and (context.classes.is_object(held) or context.facts.classes[held].name.startswith('QGraphics')):
                 owner = context.values.of(argument)
         if owner.kind not in ('null', 'none') and on.kind in ('site', 'this'):
-            context.facts.owns.append((owner, on, context.place(call)))
+            self.parting.own(owner, on, context.place(call))
 
     def note_construction(self, constructor: str, on: Value, given: list[Cursor]) -> None:
         """What a constructor is handed for an object; '' stands for that of the object's class which takes so many arguments."""

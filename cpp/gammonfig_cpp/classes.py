@@ -8,8 +8,10 @@ from .libclang import RECORDS, CxxType, Cursor, K, T, template_of
 from .model import Class, Field, Method, Parameter
 
 SMART = {'QPointer', 'QScopedPointer', 'QSharedPointer', 'QWeakPointer', 'unique_ptr', 'shared_ptr', 'weak_ptr', '__shared_ptr',
-         'QPropertyAlias', 'reference_wrapper'}
+         '__shared_ptr_access', 'QPropertyAlias', 'reference_wrapper'}
 OWNING = SMART - {'QPointer', 'QWeakPointer', 'weak_ptr', 'QPropertyAlias', 'reference_wrapper'}
+# Containers of these own what they hold.
+OF_OWNERS = re.compile(r'(unique_ptr|shared_ptr|QSharedPointer|QScopedPointer)<')
 CONTAINERS = {'QList', 'QVector', 'QMap', 'QHash', 'QSet', 'QMultiMap', 'QMultiHash', 'QStack', 'QQueue', 'vector', 'list', 'map', 'set',
               'deque', 'unordered_map', 'unordered_set', 'multimap', 'pair', 'array', 'optional', 'QPair', 'QVarLengthArray', 'QCache',
               'initializer_list', 'tuple', 'variant'}
@@ -89,6 +91,11 @@ class Classes:
         if kind.kind in (T.LVALUEREFERENCE, T.RVALUEREFERENCE):
             kind = kind.get_pointee().get_canonical()
         return str(kind.get_declaration().spelling) if kind.kind == T.RECORD else ''
+
+    def owns(self, cxx_type: CxxType) -> bool:
+        """Whether a variable of the type owns the objects to which it leads: an owning pointer, or a container of such."""
+        holder = self.holder(cxx_type)
+        return holder in OWNING or holder in CONTAINERS and bool(OF_OWNERS.search(cxx_type.get_canonical().spelling))
 
     # Classes
 

@@ -10,6 +10,7 @@ from typing import Iterator
 from .context import Context, sort_of
 from .libclang import Cursor, K, bare, expressions, strip
 from .model import Field, Statement, Term
+from .values import EXCHANGERS
 
 COMPARERS = ('qFuzzyCompare',)
 
@@ -54,6 +55,20 @@ class Comparing:
             if index is not None and field is not None:
                 self.regions.append(Compared(index, field, len(self.context.conditions)))
                 return
+            if index is not None and self._exchange(index, other):
+                return
+
+    def _exchange(self, index: int, cursor: Cursor) -> bool:
+        """Whether this writes the parameter into a member, and gives what was there: then the region begins with the write."""
+        call = bare(cursor)
+        if call.kind != K.CALL_EXPR or call.referenced is None or call.referenced.spelling not in EXCHANGERS:
+            return False
+        given = list(call.get_arguments())
+        if len(given) != 2 or self.context.values.parameter_index(given[1]) != index:
+            return False
+        self.regions.append(Compared(index, '', len(self.context.conditions)))
+        self.assignment(call, given[0], given[1])
+        return True
 
     def _sides(self, condition: Cursor, operator: str) -> tuple[Cursor, Cursor] | None:
         condition = strip(condition)

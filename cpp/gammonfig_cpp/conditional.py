@@ -38,12 +38,13 @@ class Conditional:
 
     def block(self, cursor: Cursor) -> None:
         context = self.context
-        depth, blocked = len(context.conditions), len(context.blocked)
+        depth, blocked, cut = len(context.conditions), len(context.blocked), len(context.cut)
         with self.bodies.comparing.block():
             for inner in cursor.get_children():
                 self._one(inner)
         del context.conditions[depth:]
         del context.blocked[blocked:]
+        del context.cut[cut:]
 
     def _one(self, statement: Cursor) -> None:
         """A statement of a block. What comes after `if (a) return;` runs unless a."""
@@ -109,7 +110,7 @@ class Conditional:
         for part in parts[:-1]:
             self.bodies.walk(part)
         of = context.text(next((p for p in reversed(parts[:-1]) if p.kind.is_expression()), parts[0]))
-        depth, blocked = len(context.conditions), len(context.blocked)
+        depth, blocked, cut = len(context.conditions), len(context.blocked), len(context.cut)
         labels, has_ended = list[str](), True
         for inner in parts[-1].get_children():
             found, statement = self._labels(inner)
@@ -123,6 +124,7 @@ class Conditional:
                 has_ended = ends(statement)
         del context.conditions[depth:]
         del context.blocked[blocked:]
+        del context.cut[cut:]
 
     def _labels(self, cursor: Cursor) -> tuple[list[str], Cursor | None]:
         """The labels that stand before a statement, and the statement."""

@@ -39,12 +39,16 @@ class Context:
         self.function: Function | None = None
         self.conditions: list[Condition] = []
         self.blocked: list[tuple[Value, str]] = []
+        # Connections that have been taken away meanwhile.
+        self.cut: list[Condition] = []
         # The function that is read, where it is an instance of a template or a member of one: what is made there is its own.
         self.hint = self.outer = self.instance = ''
         self.parameters: dict[tuple[str, int], str] = {}
         self.changed: set[str] = set()
         self.lambdas: dict[str, str] = {}
         self.pointers: dict[str, Named] = {}
+        # Whether a template of the application was met, or a lambda that is one.
+        self.has_templates = False
         self._declared: set[str] = set()
         self._paths: dict[str, tuple[str, bool]] = {}
         self._texts: dict[str, bytes] = {}
@@ -123,7 +127,7 @@ class Context:
 
     def add(self, kind: str, cursor: Cursor, on: Value = NONE) -> Statement:
         """Adds a statement to the function that is read, or to the initialisers of globals."""
-        statement = Statement(kind, self.place(cursor), on, conditions=tuple(self.conditions))
+        statement = Statement(kind, self.place(cursor), on, conditions=(*self.conditions, *self.cut))
         if self.function is None:
             place = Place(self.facts.source, 1, 1, 'initialisers')
             key = 'G:' + self.facts.source
@@ -241,12 +245,12 @@ class Context:
     @contextmanager
     def within(self, function: Function) -> Iterator[None]:
         """Reads a function's body: nothing of the one around it holds there."""
-        before = self.function, self.conditions, self.blocked, self.hint, self.changed
-        self.function, self.conditions, self.blocked, self.hint, self.changed = function, [], [], '', set()
+        before = self.function, self.conditions, self.blocked, self.cut, self.hint, self.changed
+        self.function, self.conditions, self.blocked, self.cut, self.hint, self.changed = function, [], [], [], '', set()
         try:
             yield
         finally:
-            self.function, self.conditions, self.blocked, self.hint, self.changed = before
+            self.function, self.conditions, self.blocked, self.cut, self.hint, self.changed = before
 
 
 def sort_of(cxx_type: object) -> tuple[str, str]:

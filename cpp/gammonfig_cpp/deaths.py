@@ -80,7 +80,7 @@ class Deaths:
         if statement.kind == 'library':
             found = self.calling.qt.entry(statement.cls, statement.name) if statement.cls in self.whole.classes else None
             return self.whole.is_signal(statement.function) or (found is not None and found[1].has_effects(bool(found[2])))
-        return statement.kind not in ('read', 'bind', 'observe', 'nested', 'close', 'bindable')
+        return statement.kind not in ('read', 'bind', 'observe', 'nested', 'close', 'part', 'bindable')
 
     def later(self, element: Element, is_watched: bool) -> Key | None:
         """A slot that stands for the event loop which deletes an object, where somebody sees that."""

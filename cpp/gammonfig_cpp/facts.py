@@ -5,7 +5,6 @@ import hashlib
 import os
 import pickle
 import time
-from typing import Any
 
 from . import model
 from .bodies import Bodies
@@ -27,8 +26,8 @@ ERROR = 3
 # Headers that clang has of its own.
 OF_CLANG = ('stddef.h', 'stdarg.h', 'float.h', 'limits.h', 'stdint.h')
 # The modules that facts depend on.
-READERS = ('bodies', 'calls', 'classes', 'comparing', 'conditional', 'connects', 'context', 'facts', 'holders', 'keeping', 'libclang', 'libraries', 'model', 'naming_callees',
-           'possessing', 'precompiled', 'qtmodel', 'quick', 'special', 'templates', 'units', 'values')
+READERS = ('apart', 'bodies', 'calls', 'classes', 'comparing', 'conditional', 'connects', 'context', 'facts', 'holders', 'keeping', 'libclang', 'libraries', 'model', 'naming_callees',
+           'parting', 'possessing', 'precompiled', 'qtmodel', 'quick', 'special', 'templates', 'units', 'values')
 
 
 def read_unit(unit: Unit, roots: list[str], known: dict[str, Class], headers: Headers | None = None) -> Facts:
@@ -39,15 +38,30 @@ def read_unit(unit: Unit, roots: list[str], known: dict[str, Class], headers: He
 
 
 def _read(unit: Unit, roots: list[str], known: dict[str, Class], headers: Headers | None) -> Facts:
+    """Reads a unit with the instances of templates, where its text has a template. Where clang's tree has one that the text doesn't show,
+    as by a macro, the unit is read again."""
     begun = time.process_time()
+    is_whole = any_in(Includes(roots).files(unit))
+    facts, has_templates = _read_once(unit, roots, known, headers, is_whole)
+    if has_templates and not is_whole:
+        facts, _ = _read_once(unit, roots, known, headers, True)
+    facts.seconds = time.process_time() - begun
+    return facts
+
+
+def _read_once(unit: Unit, roots: list[str], known: dict[str, Class], headers: Headers | None, is_whole: bool) -> tuple[Facts, bool]:
+    """The facts of a unit, and whether it has templates of the application: their instances are there only where it is parsed whole."""
     context = Context(unit.source, roots)
     facts = context.facts
     quick.forget()
+    shared = ['-include-pch', headers.path] if headers is not None else []
     try:
-        tree, included = _parsed(unit, context, headers)
+        tree = cindex.Index.create(excludeDecls=True).parse(unit.source, args=[*unit.flags, *ANNOTATIONS, *shared],
+                                                            options=0 if is_whole else cindex.TranslationUnit.PARSE_INCOMPLETE)
     except cindex.TranslationUnitLoadError:
         facts.errors.append(f'{unit.source}: libclang can\'t read this file with its flags')
-        return facts
+        return facts, False
+    included = {real(i.include.name) for i in tree.get_includes()}
     facts.errors = errors_of(tree, context)
     facts.files = sorted(included | {unit.source} | set(headers.files if headers is not None else ()))
     context.classes, context.values, context.callees = Classes(context, known), Values(context), Callees(context)
@@ -57,24 +71,10 @@ def _read(unit: Unit, roots: list[str], known: dict[str, Class], headers: Header
     for key, cls in facts.classes.items():
         if not cls.inside and cls.defined:
             known[key] = cls
+    has_templates = context.has_templates
     context.close()
     quick.forget()
-    facts.seconds = time.process_time() - begun
-    return facts
-
-
-def _parsed(unit: Unit, context: Context, headers: Headers | None) -> tuple[Any, set[str]]:
-    """The tree of a unit, and the files that it includes. Instances of templates are made where the application has templates: that its
-    files are found by their text may miss one."""
-    shared = ['-include-pch', headers.path] if headers is not None else []
-    has_templates = any_in(Includes(context.roots).files(unit))
-    while True:
-        tree = cindex.Index.create(excludeDecls=True).parse(unit.source, args=[*unit.flags, *ANNOTATIONS, *shared],
-                                                            options=0 if has_templates else cindex.TranslationUnit.PARSE_INCOMPLETE)
-        included = {real(i.include.name) for i in tree.get_includes()}
-        if has_templates or not any_in(path for path in included if context.is_own(path)):
-            return tree, included
-        has_templates = True
+    return facts, has_templates
 
 
 def errors_of(tree: object, context: Context) -> list[str]:

@@ -1,8 +1,7 @@
 """Smart pointers and containers: what they destroy, and what is put into them."""
 from __future__ import annotations
 
-import re
-
+from .classes import OF_OWNERS
 from .context import Context
 from .libclang import NAMES, VARIABLES, Cursor, K, strip
 
@@ -11,7 +10,6 @@ PUTTING = {'append', 'push_back', 'prepend', 'insert', 'enqueue', 'push', 'empla
 TAKING_OUT = {'clear', 'erase', 'pop_back', 'pop_front', 'removeAt', 'remove', 'removeFirst', 'removeLast', 'removeAll', 'removeOne',
               'removeIf', 'resize', 'assign'}
 WEAK = ('QPointer', 'QWeakPointer', 'weak_ptr')
-OF_OWNERS = re.compile(r'(unique_ptr|shared_ptr|QSharedPointer|QScopedPointer)<')
 
 
 class Holders:

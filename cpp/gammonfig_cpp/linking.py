@@ -12,6 +12,7 @@ from .owning import find_owners
 from .program import Program
 from .pruning import Pruning, unique_wires
 from .qtmodel import QtModel, Table
+from .qtwires import QtWires
 from .recursion import fold
 from .targets import Targets
 from .whole import Whole
@@ -47,6 +48,7 @@ def link(units: list[Facts], table: Table, roles: str, lean: bool) -> Linked:
     wires.all()
     effects = Effects(program, calling, targets)
     effects.all()
+    QtWires(program, calling).all()
     Bindings(program, effects).all()
     fold(program)
     program.wires = unique_wires(program.wires)

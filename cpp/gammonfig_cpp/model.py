@@ -55,7 +55,7 @@ class Parameter:
 
 @dataclass(frozen=True, slots=True)
 class Condition:
-    """`how` is `if`, `unless`, `blocked by`, `in` (a loop) or `case` (labels in a switch over `of`)."""
+    """`how` is `if`, `unless`, `blocked by`, `disconnected by`, `in` (a loop) or `case` (labels in a switch over `of`)."""
     how: str
     words: str
     line: int
@@ -88,7 +88,8 @@ class Statement:
 
     `call` and `library` (a function with sources, and one of Qt), `delete`, `scope` (a local object ends), `later`, `property`
     (setProperty by name), `event` (sendEvent), `invoke`, `post`, `nested`, `assign` (a compared member is set), `field`, `read`,
-    `bind`, `observe` (of bindable properties), `close` (an object is told to delete itself). `how` is `queued` and such of a call by
+    `bind`, `observe` (of bindable properties), `close` (an object is told to delete itself), `part` (it has the owner `to` from here on,
+    or none; `perhaps` where the function may have returned before). `how` is `queued` and such of a call by
     name, `told` of an emission that only tells what was set, and of a deletion `own`, of what the member `field` of this object holds, or `child`."""
     kind: str
     place: Place
@@ -105,6 +106,7 @@ class Statement:
     named: Named | None = None
     how: str = ''
     given: str = ''
+    to: Value = NONE
 
 
 @dataclass(slots=True)
@@ -176,7 +178,7 @@ class Connect:
 
 @dataclass(frozen=True, slots=True)
 class Handed:
-    """Objects that a function of Qt is handed, by the number of the argument."""
+    """Objects that a function of Qt is handed, by the number of the argument; 0 is what it returns."""
     cls: str
     name: str
     on: Value

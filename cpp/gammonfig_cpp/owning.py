@@ -57,7 +57,7 @@ def hand_over(handed: Handed, qt: QtModel) -> Given:
     entry = found[1] if found is not None else Entry()
 
     def named(numbers: list[str]) -> list[Value]:
-        return [value for at, value in handed.given if str(at) in numbers]
+        return [value for at, value in handed.given if (str(at) if at else 'result') in numbers]
 
     if not entry.owns and not entry.lays and handed.name in TAKING:
         return Given([value for _, value in handed.given], [], [])

@@ -6,6 +6,7 @@ from dataclasses import dataclass, field, replace
 
 from .model import Condition, Function, Parameter, Place, Term
 from .objects import FREE, Element, Objects
+from .parted import Parted
 from .whole import Whole
 
 Key = tuple[str, ...]
@@ -56,6 +57,8 @@ class Wire:
     place: Place | None
     words: str = ''
     way: str = 'other'
+    # Whether Qt doesn't go this way again before it has come back.
+    once: bool = False
 
 
 @dataclass(slots=True)
@@ -107,14 +110,16 @@ class Program:
     def owners(self) -> list[tuple[Element, Element, Place]]:
         """Which objects may own which, by all that is known by now."""
         if self._owners is None or self._owners[0] != len(self.whole.owns):
-            found: dict[tuple[Element, Element], Place] = {}
+            found, as_members = dict[tuple[Element, Element], Place](), set[tuple[Element, Element]]()
             for owner, child, place in self.whole.owns:
                 if owner.kind == 'variable' and owner.key.startswith('P:') and owner.key not in self.whole.flows:
                     continue
-                for a in self.objects.elements(owner):
-                    for b in self.objects.elements(child):
-                        found.setdefault((a, b), place)
+                pairs = [(a, b) for a in self.objects.elements(owner) for b in self.objects.elements(child)]
+                for pair in pairs:
+                    found.setdefault(pair, place)
+                as_members.update(pairs if owner.kind == 'member' else ())
             self._lay(found)
+            Parted(self.objects).leave_out(found, as_members)
             self._owners = len(self.whole.owns), [(a, b, place) for (a, b), place in sorted(found.items(), key=lambda f: f[0])]
         return self._owners[1]
 
@@ -236,6 +241,16 @@ class Program:
         if len(own) <= len(parameters) and all(same_type(p, q) for p, q in zip(own, parameters)):
             return target
         return self.relay(target, parameters[:MOST_PARAMETERS])
+
+    def fitting(self, signal: Key, key: Key) -> Key:
+        """A member as a signal's receiver."""
+        return self.adapted(key, self._parameters(signal))
+
+    def _parameters(self, signal: Key) -> list[Parameter]:
+        """The parameters that a signal hands on. `destroyed` hands on none here: its object can't be used any more."""
+        member = self.members[signal]
+        of_object = signal[0] == 'signal' and self.whole.name(self.whole.class_of(signal[1])) == 'QObject'
+        return [] if of_object and member.name == 'destroyed' else member.parameters
 
 
 def same_type(one: Parameter, other: Parameter) -> bool:

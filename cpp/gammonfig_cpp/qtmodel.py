@@ -4,6 +4,7 @@ from __future__ import annotations
 import re
 from collections import defaultdict
 from dataclasses import dataclass, field
+from typing import NamedTuple
 
 from .errors import ReadError
 from .whole import Whole
@@ -17,7 +18,20 @@ TAKING = {'addWidget', 'insertWidget', 'setCentralWidget', 'setWidget', 'addTab'
 KNOWN = TAKING | {'addAction', 'setParent', 'setObjectName', 'setAttribute', 'callOnTimeout'}
 LINE = re.compile(r'(\w+)\.(~?\w+)\s+(.+)$')
 CLAUSES = ('emits', 'inside', 'rarely', 'calls', 'posts', 'deletes', 'later', 'owns', 'lays', 'owner', 'takes', 'needs')
-WIRE = re.compile(r'wire\s+(\w+)\.(\w+)\s*->\s*(\w+)\.(\w+)$')
+WIRE = re.compile(r'wire\s+(\w+)\.(\w+)\s*->\s*(\w+)\.(\w+)(?:\s+by\s+(\w+))?(\s+once)?$')
+# What stands for a class: what a delegate makes to edit an item with.
+EDITOR = 'editor'
+
+
+class QtWire(NamedTuple):
+    """What Qt connects by itself: each object of a class to those of another one, or, where `by` names a function of the receiver, to
+    those that it was handed. `once` is what Qt doesn't do again before it has come back from it."""
+    sender: str
+    signal: str
+    receiver: str
+    member: str
+    by: str = ''
+    once: bool = False
 
 
 @dataclass
@@ -52,7 +66,7 @@ class Entry:
 class Table:
     def __init__(self) -> None:
         self.entries: dict[tuple[str, str], Entry] = {}
-        self.wires: list[tuple[str, str, str, str]] = []
+        self.wires: list[QtWire] = []
         self.classes: set[str] = set()
 
     @staticmethod
@@ -73,7 +87,7 @@ class Table:
     def _take(self, words: str) -> bool:
         wire = WIRE.match(words)
         if wire:
-            self.wires.append((wire[1], wire[2], wire[3], wire[4]))
+            self.wires.append(QtWire(wire[1], wire[2], wire[3], wire[4], wire[5] or '', bool(wire[6])))
             return True
         found = LINE.match(words)
         clauses = clauses_of(found[3]) if found else None

@@ -8,6 +8,7 @@ from dataclasses import dataclass, field
 from typing import Any
 from urllib.parse import quote
 
+from .advice import in_cpp
 from .errors import ReadError
 from .places import Places
 
@@ -108,7 +109,8 @@ def finding_of(told: dict[str, Any], places: Places) -> Finding:
     if not spot.file:
         first = next((s.spot for s in chain if s.spot.file), None)
         spot = first or spot
-    return Finding(spot, str(told['rule']), int(told.get('number', 0)), str(told['message']), str(told.get('help') or ''), chain,
+    rule = str(told['rule'])
+    return Finding(spot, rule, int(told.get('number', 0)), str(told['message']), in_cpp(rule, str(told.get('help') or '')), chain,
                    str(told.get('severity', 'error')))
 
 

@@ -1,9 +1,10 @@
 """Functions of Qt that mean something of their own to the reader: connections, timers, deletions, owners, nested loops."""
 from __future__ import annotations
 
+from .apart import members_in
 from .context import Context
 from .libclang import NAMES, Cursor, K, T, expressions, first_text, is_written, strip
-from .model import Handed, Value
+from .model import Condition, Handed, Value
 
 NESTED = {'exec', 'processEvents', 'exec_'}
 DIALOGS = {('QMessageBox', n) for n in ('information', 'warning', 'critical', 'question', 'about', 'aboutQt')} | \
@@ -31,10 +32,12 @@ class Special:
     def call(self, call: Cursor, parent: str, name: str, on: Value, given: list[Cursor]) -> None:
         context, facts = self.context, self.context.facts
         if name == 'connect':
+            self._connect_again(call)
             receiver = context.this if on.kind == 'static' else on
             context.connects.connect(call, given, receiver)
         elif name == 'disconnect':
             facts.disconnects += 1
+            self._disconnect(call)
         elif name == 'invokeMethod':
             context.connects.invoke(call, given)
         elif name == 'singleShot':
@@ -58,6 +61,17 @@ class Special:
             self.context.blocked.append((on, self.context.text(call)))
         else:
             self.context.blocked = [b for b in self.context.blocked if b[0] != on]
+
+    def _disconnect(self, call: Cursor) -> None:
+        """What comes next runs without the connection, until it is made again: that isn't believed, but it is a condition."""
+        words = self.context.text(call, 1000)
+        if members_in(words) and len(words) <= 200:
+            self.context.cut.append(Condition('disconnected by', words, call.location.line))
+
+    def _connect_again(self, call: Cursor) -> None:
+        named = members_in(self.context.text(call, 1000))
+        cut = [(condition, members_in(condition.words)) for condition in self.context.cut]
+        self.context.cut = [condition for condition, members in cut if members != named[:len(members)]]
 
     def _set_property(self, call: Cursor, on: Value, given: list[Cursor]) -> None:
         name = first_text(given[0]) if given else None
@@ -91,6 +105,8 @@ class Special:
         elif self._dies_by_itself(name, given):
             context.add('close', call, on)
         else:
+            if name == 'setParent' and given:
+                context.calls.parting.part(call, on, context.values.of(given[0]))
             self._hand(call, name, on, given)
         if name in WIRING:
             context.note('wiring of Qt', call, f'{parent}::{name}: {context.text(call, 60)}')
@@ -103,8 +119,10 @@ class Special:
         return name == 'start' and bool(words) and words[0].endswith('DeleteWhenStopped')
 
     def _hand(self, call: Cursor, name: str, on: Value, given: list[Cursor]) -> None:
-        """Objects that are handed to a function of Qt, which may become their owner."""
+        """Objects that are handed to a function of Qt, which may become their owner; as number 0 one that it made itself, and returns."""
         context, handed = self.context, list[tuple[int, Value]]()
+        if context.values.is_factory(name, context.classes.of(call.type)):
+            handed.append((0, context.values.of(call)))
         for at, argument in enumerate(given, 1):
             cls = context.classes.of(argument.type)
             if is_written(argument) and cls and argument.type.get_canonical().kind == T.POINTER and context.classes.is_handed_over(cls):
@@ -113,7 +131,7 @@ class Special:
                     handed.append((at, value))
         if handed:
             cls = context.classes.note(call.referenced.semantic_parent)
-            context.facts.handed.append(Handed(cls, name, on, tuple(handed), context.place(call)))
+            context.calls.parting.hand(Handed(cls, name, on, tuple(handed), context.place(call)))
 
     # Bindable properties
 

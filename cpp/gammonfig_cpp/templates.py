@@ -1,5 +1,7 @@
 """Whether a unit has templates of its own. Where it has none, clang needn't make at its end the instances that are asked for: nothing is
-read of those of Qt's templates, and making them takes a third of the time of a parse and more."""
+read of those of Qt's templates, and making them takes a third of the time of a parse and more.
+
+The text tells it before clang has parsed anything. What it doesn't show, as what a macro makes, the reader meets in clang's tree."""
 from __future__ import annotations
 
 import re
@@ -11,6 +13,16 @@ from .precompiled import stamp
 # A template, a lambda with types of its own or with `auto` among its parameters, and a function with `auto` among them.
 OWN = re.compile(r'\btemplate\b|\]\s*<\s*(?:typename|class|auto)\b|\b(?!(?:for|if|while|switch)\b)\w+\s*\([^();{}]*\bauto\b'
                  r'|\]\s*\([^()]*\bauto\b|,\s*(?:const\s+)?auto\b')
+
+
+def has_types(words: str) -> bool:
+    """Whether a lambda names types of its own, which libclang doesn't tell: `<` after the bracket that closes its captures."""
+    depth = 0
+    for at, letter in enumerate(words):
+        depth += (letter == '[') - (letter == ']')
+        if depth == 0:
+            return words[at + 1:].lstrip().startswith('<')
+    return False
 
 
 def any_in(paths: Iterable[str]) -> bool:

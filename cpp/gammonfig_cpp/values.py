@@ -11,6 +11,8 @@ from .model import NONE, NULL, UNKNOWN, Parameter, Term, Value
 CAST_FUNCTIONS = {'qobject_cast', 'dynamic_pointer_cast', 'qSharedPointerCast', 'qSharedPointerObjectCast', 'qSharedPointerDynamicCast',
                   'qgraphicsitem_cast', 'qobject_pointer_cast', 'static_pointer_cast', 'const_pointer_cast'}
 HANDING_ON = {'qAsConst', 'move', 'forward', 'as_const', 'exchange', 'addressof', 'ref', 'cref', 'qExchange'}
+# What writes a new value into its first argument, and gives the old one: `if (std::exchange(m_value, v) != v) emit valueChanged(v);`
+EXCHANGERS = ('exchange', 'qExchange')
 # Functions of Qt whose result is an object of their own making, or one that nobody else names: a place where one is made.
 FACTORIES = {'addAction', 'addMenu', 'addToolBar', 'addButton', 'nextPendingConnection', 'get', 'post', 'put', 'head', 'deleteResource',
              'sendCustomRequest', 'addSeparator', 'addRect', 'addText', 'addItem', 'addEllipse', 'addLine', 'addPixmap', 'addPath',
@@ -96,11 +98,18 @@ class Values:
     def made_by_call(self, cursor: Cursor, cls: str) -> Value:
         return self.context.site(self.context.spot('F', cursor), cursor, cls)
 
+    def is_factory(self, name: str, cls: str) -> bool:
+        """Whether a function of Qt gives an object of a class that it made itself."""
+        return name in FACTORIES and bool(cls) and self.context.facts.classes[cls].name in FACTORY_CLASSES
+
     def _called(self, cursor: Cursor, depth: int) -> Value:
         classes, called = self.context.classes, cursor.referenced
         cls, given = classes.of(cursor.type), list(cursor.get_arguments())
         if called is not None and called.kind == K.CONSTRUCTOR:
-            holds = called.semantic_parent.spelling in SMART | CONTAINERS
+            holder = called.semantic_parent.spelling
+            if holder in SMART and not given:
+                return NULL
+            holds = holder in SMART | CONTAINERS
             if given and cls and (holds or len(given) == 1):
                 return Value('any', parts=tuple(self.of(a, depth + 1) for a in given))
             return self.any_of(cls)
@@ -114,12 +123,12 @@ class Values:
                 return Value('cast', cls=cls, parts=(self.of(given[-1], depth + 1),))
             if name in HANDING_ON:
                 return self.of(given[0], depth + 1)
-        if not inside and name.startswith(('make_unique', 'make_shared')):
+        parent = called.semantic_parent
+        if not inside and (name.startswith(('make_unique', 'make_shared')) or name == 'create' and parent.spelling == 'QSharedPointer'):
             made = self.made_by_call(cursor, cls)
             if self.context.facts.classes[cls].inside:
                 self.context.calls.note_construction('', made, given)
             return made
-        parent = called.semantic_parent
         if parent is not None and parent.kind in RECORDS:
             found = self._of_member(cursor, cls, depth)
             if found is not None:
@@ -142,7 +151,7 @@ class Values:
         if name in HELD:
             holder = self.of(on, depth + 1) if on is not None else self.context.this
             return Value('content', cls=cls, parts=(holder,))
-        if name in FACTORIES and self.context.facts.classes[cls].name in FACTORY_CLASSES:
+        if self.is_factory(name, cls):
             return self.made_by_call(cursor, cls)
         if GIVING_AWAY.match(name):
             return Value('given', name, cls, (self.of(on, depth + 1) if on is not None else self.context.this,))
@@ -220,6 +229,8 @@ class Values:
             on = self.context.calls.object_of(cursor)
             if on is not None and strip(on).type.get_canonical().kind != T.POINTER:
                 found.append(on)
+        if called.spelling in EXCHANGERS:
+            return list(cursor.get_arguments())[:1]
         for formal, given in zip(called.get_arguments(), cursor.get_arguments()):
             kind = formal.type.get_canonical()
             if kind.kind == T.LVALUEREFERENCE and not kind.get_pointee().is_const_qualified():

@@ -6,6 +6,7 @@ import json
 from dataclasses import dataclass
 from typing import Any
 
+from .apart import members_in, names
 from .errors import ReadError
 from .report import Finding, Spot, StepTold, Verdict
 
@@ -15,9 +16,14 @@ CLIMBS = ('each step stays with its object, or goes on to one that holds it, as 
           'one another; that is not proved')
 BLOCKED = ('the signals of an object on it are blocked by the one that begins this, so that it ends there, unless another object of the role '
            'emits them; that is not proved')
+DISCONNECTED = ('a connection on it is taken away by the one that begins this, so that it ends there, unless another object of the role is '
+                'connected too; that is not proved')
+ONCE = 'a step of it Qt takes no second time before it has come back from it, so that this ends there; that is not proved'
 OF_OWN = ('what is deleted is held by a member of the object that deletes it: another object of its class, unless it owns itself; '
           'that is not proved')
 DIES_ONCE = 'an object dies on each way round, and each dies once: this goes on only while others are made; that is not proved'
+# The rule of wires that another one covers: here each is of the reader's writing, as one of some role and one of any object.
+COVERED = 'wire-unused'
 # Severities, the gravest first.
 GRAVE = ('error', 'warning', 'note')
 
@@ -26,7 +32,7 @@ GRAVE = ('error', 'warning', 'note')
 class Warnings:
     """What the reader warned of; the circles that it takes to come to rest, and to go up a tree; where objects delete what they own; what
     is on circles only by the death of an object; the sets of members that lead to one another through an event loop; what Qt itself
-    posts; and whether the program is over the standard limits."""
+    posts, and which steps it doesn't take again before it has come back; and whether the program is over the standard limits."""
     found: list[dict[str, Any]]
     resting: list[set[str]]
     climbing: list[set[str]]
@@ -34,6 +40,7 @@ class Warnings:
     by_death: set[str]
     circling: list[set[str]]
     by_qt: set[str]
+    once: set[tuple[str, str]]
     wide: bool
 
     @staticmethod
@@ -45,14 +52,16 @@ class Warnings:
             resting = [set(names) for names in told['resting']]
             climbing = [set(names) for names in told['climbing']]
             circling = [set(names) for names in told['circling']]
-            return Warnings(told['findings'], resting, climbing, own, set(told['by_death']), circling, set(told['by_qt']), bool(told['wide']))
+            once = {(str(one), str(two)) for one, two in told['once']}
+            return Warnings(told['findings'], resting, climbing, own, set(told['by_death']), circling, set(told['by_qt']), once, bool(told['wide']))
         except (OSError, ValueError, KeyError, TypeError) as wrong:
             raise ReadError(f'{path}: the warnings can\'t be read: read the application again') from wrong
 
     def add_to(self, verdict: Verdict) -> None:
         """Adds the warnings, but for rules that the verdict has itself; and tells of circles that come to rest. That what Qt posts to an
-        object is dropped with it isn't told: so Qt does it with each event."""
-        verdict.findings = [f for f in verdict.findings if f.rule != 'deletes-connected' or not {s.from_ for s in f.chain} & self.by_qt]
+        object is dropped with it isn't told: so Qt does it with each event; nor are wires that another covers."""
+        verdict.findings = [f for f in verdict.findings if f.rule != COVERED
+                            and (f.rule != 'deletes-connected' or not {s.from_ for s in f.chain} & self.by_qt)]
         own = {f.rule for f in verdict.findings}
         for finding in verdict.findings:
             names = {s.from_ for s in finding.chain}
@@ -62,8 +71,14 @@ class Warnings:
                 finding.note, finding.severity = CLIMBS, 'note'
             elif finding.rule == 'cycle' and _is_blocked(finding.chain):
                 finding.note, finding.severity = BLOCKED, 'note'
+            elif finding.rule == 'cycle' and _is_disconnected(finding.chain):
+                finding.note, finding.severity = DISCONNECTED, 'note'
+            elif finding.rule == 'cycle' and any((s.from_, s.to) in self.once for s in finding.chain):
+                finding.note, finding.severity = ONCE, 'note'
             elif finding.rule == 'destroy-path' and self._is_of_own(finding):
                 finding.note, finding.severity = OF_OWN, 'note'
+        # Of what is Qt's alone, and ends by itself, nobody has to know.
+        verdict.findings = [f for f in verdict.findings if f.note != ONCE or any(s.spot.file for s in f.chain)]
         verdict.findings += [warning_of(f) for f in self.found if f['rule'] not in own]
         for finding in verdict.findings:
             if finding.rule == 'queued-cycle' and finding.chain and all(s.from_ in self.by_death for s in finding.chain):
@@ -105,6 +120,16 @@ def _is_blocked(chain: list[StepTold]) -> bool:
         blocked = step.to.partition('.')[0] if any(c.startswith('blocked by') for c in step.spot.conditions) else None
         if any(later.by == 'wire' and later.from_.partition('.')[0] == blocked for later in chain[at + 1:] + chain[:at]):
             return True
+    return False
+
+
+def _is_disconnected(chain: list[StepTold]) -> bool:
+    """Whether one step of a circle runs while a connection is taken away that another one goes by."""
+    for at, step in enumerate(chain):
+        for members in (members_in(c) for c in step.spot.conditions if c.startswith('disconnected by')):
+            for other in chain[at + 1:] + chain[:at] if members else ():
+                if other.by == 'wire' and all(names(name, member) for name, member in zip((other.from_, other.to), members)):
+                    return True
     return False
 
 

@@ -13,9 +13,13 @@ from .places import Places
 from .program import Program
 from .settling import Settling
 
-# Signals for which an object waits for an answer: it doesn't emit them again meanwhile.
+# Signals for which an object waits for an answer: it doesn't emit them again meanwhile. All replies of a manager come by one thread,
+# which waits too.
 ANSWERED = {('QSslSocket', 'sslErrors'), ('QSslSocket', 'preSharedKeyAuthenticationRequired'), ('QSslSocket', 'handshakeInterruptedOnError'),
-            ('QAbstractSocket', 'proxyAuthenticationRequired')}
+            ('QAbstractSocket', 'proxyAuthenticationRequired'), ('QNetworkReply', 'sslErrors'),
+            ('QNetworkReply', 'preSharedKeyAuthenticationRequired'), ('QNetworkAccessManager', 'sslErrors'),
+            ('QNetworkAccessManager', 'preSharedKeyAuthenticationRequired'), ('QNetworkAccessManager', 'authenticationRequired'),
+            ('QNetworkAccessManager', 'proxyAuthenticationRequired')}
 # What a user does is kept from a window while a modal dialog is open, so it is no way back into a slot that opens one.
 BY_HAND = ('QWidget', 'QAction', 'QShortcut', 'QGuiApplication', 'QGraphicsItem', 'QSystemTrayIcon')
 
@@ -32,7 +36,7 @@ class Watching:
         found = sorted(self._queued_cycles() + self._re_entries(), key=lambda f: [str(f.get(k, '')) for k in ('rule', 'file')]
                        + [f"{f.get('line', 0):>9}", str(f['message'])])
         told = {'findings': found, 'resting': resting, 'climbing': Climbing(direct).sets(), 'own': self._own(), 'by_death': self._by_death(),
-                'circling': self._circling(), 'by_qt': self._by_qt(), 'wide': wide}
+                'circling': self._circling(), 'by_qt': self._by_qt(), 'once': self._once(), 'wide': wide}
         return json.dumps(told, indent=1, ensure_ascii=False) + '\n'
 
     def _own(self) -> list[list[object]]:
@@ -61,6 +65,13 @@ class Watching:
         """What Qt's own functions post."""
         members = self.program.members
         return sorted({self.graph.name(node) for node in self.graph.edges if node[1][0] == 'posted' and members[node[1]].library})
+
+    def _once(self) -> list[list[str]]:
+        """Steps of Qt's own that it doesn't take again before it has come back from them."""
+        graph = self.graph
+        pairs = [(a, b, w) for w in self.program.wires if w.once for a in graph.roles(w.sender) for b in graph.roles(w.receiver)]
+        told = {(graph.name((a, w.signal)), graph.name((b, w.method))) for a, b, w in pairs if (b, w.method) in graph.edges.get((a, w.signal), ())}
+        return [list(names) for names in sorted(told)]
 
     def _told(self, why: Why) -> dict[str, object]:
         place = why.place

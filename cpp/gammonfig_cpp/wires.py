@@ -8,10 +8,10 @@ from typing import Iterable
 
 from .calling import Calling
 from .climbing import Holding
-from .model import Connect, Forward, Named, Parameter, Value
+from .model import Connect, Forward, Named, Value
 from .objects import FREE, Element
 from .owning import of_each_object
-from .program import Key, Program, Wire
+from .program import Program, Wire
 from .relations import Related
 from .targets import Target, Targets
 
@@ -58,7 +58,6 @@ class Wires:
         self.of_threads: set[str] = set()
         self.moved: set[Element] = set()
         self.holding = Holding(program.whole.flows)
-        self.of_qt: set[tuple[Element, Key, Element, Key]] = set()
 
     def all(self) -> None:
         for value in self.whole.moved:
@@ -77,7 +76,6 @@ class Wires:
         self.calling.watched = Related(self.objects, [Element('class', self.objects.cls(w.sender)) for w in self.program.wires
                                                       if w.signal[0] == 'signal'
                                                       and self.whole.name(self.whole.class_of(w.signal[1])) == 'QObject'])
-        self._of_qt()
 
     # One connection
 
@@ -161,17 +159,8 @@ class Wires:
             how = 'queued'
             self.program.counts['auto connections that are queued: one end was moved to a thread'] += 1
         signal = self.program.signal(usr)
-        return [Wire(self.program.role(element), signal, receiver, self.fitting(signal, key), how, connect.place,
+        return [Wire(self.program.role(element), signal, receiver, self.program.fitting(signal, key), how, connect.place,
                      way=self.holding.way(connect))]
-
-    def fitting(self, signal: Key, key: Key) -> Key:
-        return self.program.adapted(key, self.parameters(signal))
-
-    def parameters(self, signal: Key) -> list[Parameter]:
-        """The parameters that a signal hands on. `destroyed` hands on none here: its object can't be used any more."""
-        member = self.program.members[signal]
-        of_object = signal[0] == 'signal' and self.whole.name(self.whole.class_of(signal[1])) == 'QObject'
-        return [] if of_object and member.name == 'destroyed' else member.parameters
 
     # What connects without `connect`
 
@@ -231,29 +220,3 @@ class Wires:
                 if statement.kind in ('call', 'library') and whole.is_signal(statement.function):
                     (emitted if function.key in inside else elsewhere).add(statement.function)
         return emitted - elsewhere
-
-    def _of_qt(self) -> None:
-        """What Qt connects by itself, where somebody listens to where it leads, or the application has the function."""
-        whole, program = self.whole, self.program
-        for _ in range(3):
-            heard, senders = {w.signal for w in program.wires}, {w.sender for w in program.wires}
-            for sender, signal, receiver, other in self.calling.qt.table.wires:
-                for a in whole.by_name.get(sender, ()):
-                    for b in whole.by_name.get(receiver, ()):
-                        one, two = whole.signal(a, signal), whole.signal(b, other)
-                        # What Qt makes itself, as the selection of a view, is there where somebody is connected to it.
-                        if one is None or not all(self.calling.is_present(it) or Element('class', it) in senders for it in (a, b)):
-                            continue
-                        if two is None:
-                            for on, key in self.calling.callbacks(Element('class', b), other):
-                                self._add_of_qt(a, one, on, key)
-                        elif ('signal', two) in heard:
-                            self._add_of_qt(a, one, program.of_class(b), program.signal(two))
-
-    def _add_of_qt(self, a: str, one: str, receiver: Element, key: Key) -> None:
-        program, signal = self.program, self.program.signal(one)
-        wire = Wire(program.of_class(a), signal, receiver, self.fitting(signal, key), 'direct', None, 'Qt connects them by itself')
-        known = (wire.sender, wire.signal, wire.receiver, wire.method)
-        if known not in self.of_qt:
-            self.of_qt.add(known)
-            program.wires.append(wire)

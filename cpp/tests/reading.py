@@ -21,6 +21,11 @@ from gammonfig_cpp.units import Unit  # noqa: E402
 from gammonfig_cpp.writing import Writing, Written  # noqa: E402
 
 
+# The modules of Qt that cases need beyond its core.
+MODULES = {**dict.fromkeys(('answers.cpp', 'visits.cpp'), 'Qt6Network'),
+           **dict.fromkeys(('ends.cpp', 'owners.cpp', 'views.cpp', 'widgets.cpp'), 'Qt6Widgets')}
+
+
 @functools.cache
 def flags(package: str) -> tuple[str, ...]:
     """The flags of a module of Qt, as its own package file has them."""
@@ -32,7 +37,7 @@ def flags(package: str) -> tuple[str, ...]:
 def facts() -> dict[str, Facts]:
     """The facts of each case."""
     names = sorted(name for name in os.listdir(CASES) if name.endswith('.cpp'))
-    units = [Unit(os.path.join(CASES, name), flags('Qt6Widgets' if name in ('ends.cpp', 'owners.cpp', 'widgets.cpp') else 'Qt6Core')) for name in names]
+    units = [Unit(os.path.join(CASES, name), flags(MODULES.get(name, 'Qt6Core'))) for name in names]
     return dict(zip((name[:-4] for name in names), gather(units, [CASES], None, jobs(), True)))
 
 

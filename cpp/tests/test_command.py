@@ -6,6 +6,7 @@ import re
 import shutil
 import stat
 import subprocess
+from dataclasses import replace
 
 import pytest
 from reading import CASES, HERE, flags
@@ -169,8 +170,8 @@ def test_one_note_for_each_tree(written: pathlib.Path, tmp_path: pathlib.Path) -
     assert 'ends at the top' in told[0]['note'] and 'note' not in told[2]
 
 
-def test_a_circle_by_blocked_signals() -> None:
-    """A circle in which the signals of an object are blocked while they would go on is a note."""
+def test_a_circle_by_blocked_signals_or_without_its_connection() -> None:
+    """A circle in which the signals of an object are blocked while they would go on, or their connection is taken away, is a note."""
     def circle(*conditions: str) -> Verdict:
         steps = [('Desk.fill()', 'Dial_m_dial.turn()', 'statement'), ('Dial_m_dial.turn()', 'Dial_m_dial.turned()', 'statement'),
                  ('Dial_m_dial.turned()', 'Desk.fill()', 'wire')]
@@ -178,10 +179,22 @@ def test_a_circle_by_blocked_signals() -> None:
                  for from_, to, by in steps]
         return Verdict([Finding(Spot(), 'cycle', 0, 'm', '', chain)], 0, 0, 3)
 
-    for conditions, severity in ((('blocked by `blocker(m_dial)`',), 'note'), (('if `m_dial`',), 'error')):
+    for conditions, severity in ((('blocked by `blocker(m_dial)`',), 'note'), (('if `m_dial`',), 'error'),
+                                 (('disconnected by `disconnect(m_dial, &Dial::turned, this, &Desk::fill)`',), 'note'),
+                                 (('disconnected by `disconnect(m_dial, SIGNAL(turned()))`',), 'note'),
+                                 (('disconnected by `disconnect(m_dial, &Dial::turned, this, &Desk::empty)`',), 'error'),
+                                 (('disconnected by `disconnect(m_dial, &Dial::turn, this, &Desk::fill)`',), 'error')):
         verdict = circle(*conditions)
-        Warnings([], [], [], set(), set(), [], set(), False).add_to(verdict)
+        Warnings([], [], [], set(), set(), [], set(), set(), False).add_to(verdict)
         assert verdict.findings[0].severity == severity
+    for to, severity in (('Desk.fill()', 'note'), ('Desk.empty()', 'error')):
+        verdict = circle()
+        Warnings([], [], [], set(), set(), [], set(), {('Dial_m_dial.turned()', to)}, False).add_to(verdict)
+        assert verdict.findings[0].severity == severity, 'what Qt does once at a time ends it'
+    verdict = circle()
+    verdict.findings[0].chain = [replace(step, spot=Spot()) for step in verdict.findings[0].chain]
+    Warnings([], [], [], set(), set(), [], set(), {('Dial_m_dial.turned()', 'Desk.fill()')}, False).add_to(verdict)
+    assert verdict.findings == [], 'and where nothing of it is the application\'s, it isn\'t told'
 
 
 def test_one_finding_for_each_set_of_circles(written: pathlib.Path, tmp_path: pathlib.Path) -> None:
@@ -214,6 +227,13 @@ def test_what_qt_posts_to_a_dead_object(written: pathlib.Path, tmp_path: pathlib
     assert ': note: m [deletes-connected]' in run(tmp_path, '--verdict', 'out', GAMMONFIG=named).stdout
     path.write_text(json.dumps(json.loads(path.read_text()) | {'by_qt': ['Desk.end()']}))
     assert 'deletes-connected' not in run(tmp_path, '--verdict', 'out', GAMMONFIG=named).stdout
+
+
+def test_a_wire_that_another_covers(written: pathlib.Path, tmp_path: pathlib.Path) -> None:
+    """Each wire is of the reader's writing: that one covers another is nothing to mend in C++."""
+    shutil.copytree(written / 'out', tmp_path / 'out')
+    named = checker(tmp_path, line_of(written, 'delete this;'), 'wire-unused', 'warning')
+    assert run(tmp_path, '--verdict', 'out', GAMMONFIG=named).stdout == 'nothing is found\n'
 
 
 def test_a_verdict_as_sarif(written: pathlib.Path) -> None:

@@ -57,7 +57,8 @@ def test_a_helper_is_read_at_its_calls() -> None:
 
 def test_setters_that_compare_are_properties() -> None:
     found = case('setters')
-    for setter, name in (('setLevel', 'level'), ('setName', 'name'), ('setMuted', 'muted'), ('setDepth', 'depth')):
+    for setter, name in (('setLevel', 'level'), ('setName', 'name'), ('setMuted', 'muted'), ('setDepth', 'depth'),
+                         ('setPlace', 'place'), ('setRank', 'rank')):
         assert found.body(setter) == [f'set this.{name} = to;']
     assert '    property int level notify levelChanged(int);' in found.text
     assert '    property int muted notify mutedChanged();' in found.text
@@ -68,6 +69,7 @@ def test_setters_that_do_not_compare_emit() -> None:
     assert found.body('setAlways') == ['emit alwaysChanged(to);']
     assert found.body('setOther') == ['emit otherChanged(0);'], 'another value is kept than the one that was compared'
     assert found.body('setClamped') == ['emit clampedChanged(0);'], 'the parameter is changed first'
+    assert found.body('setAfter') == ['emit afterChanged(to);'], 'another value is kept than the one that was compared'
     assert found.body('setInner') == ['emit innerChanged(to);'], 'a further condition stands before the emission'
 
 
@@ -205,10 +207,28 @@ def test_owners_by_what_functions_of_qt_do() -> None:
         f'call this.to_{name}.Leaf_gone();' for name in ('Leaf_m_laid', 'Leaf_m_adopted', 'Twig')]
 
 
+def test_a_parent_that_is_taken_away_owns_no_more() -> None:
+    """By a call that each way takes: after the owner was named, before it dies, or in its destructor."""
+    found = case('parents')
+    assert [line for line in found.text.split('\n') if line.startswith('owns ')] == [
+        'owns Barn Child_m_kept;', *(f'owns House Child_{name};' for name in ('m_perhaps', 'm_returned', 'last', 'replaced', 'again', 'm_left', 'm_toggled')),
+        'owns Tent_m_second Child_m_stove;', 'owns Tent_m_third Child_m_rope;']
+    sites = found.linked.whole.sites
+    owned = {sites[child.key].hint for owner, child, _ in found.linked.program.owners() if sites.get(owner.key) is not None
+             and sites[owner.key].hint == 'm_other'}
+    assert owned == {'moved', 'm_saved'}, 'the other parent owns'
+
+
 def test_a_function_whose_source_is_not_read_is_watched() -> None:
     found = case('owners')
     assert found.wires() == ['wire Leaf_m_leaf falling() -> Wood elsewhere() auto;']
     assert json.loads(Watching(found.linked.program, found.written.names, found.written.places).text(False))['findings'] == []
+
+
+def test_what_waits_for_an_answer_does_not_ask_again() -> None:
+    found = case('answers')
+    told = json.loads(Watching(found.linked.program, found.written.names, found.written.places).text())['findings']
+    assert [(f['rule'], f['line']) for f in told] == [('re-entry', 20)]
 
 
 def test_a_role_for_each_member() -> None:
@@ -251,6 +271,8 @@ def test_conditions_stand_beside_statements() -> None:
     assert conditions['emit other()'] == ['unless `value == 0`']
     assert conditions['emit given->high()'] == ['blocked by `blocker(given)`']
     assert conditions['emit given->low()'] == ['blocked by `given->blockSignals(true)`']
+    assert conditions['emit given->far()'] == ['disconnected by `disconnect(given, &Apart::near, this, &Apart::follow)`']
+    assert 'emit given->near()' not in conditions, 'the connection is made again'
 
 
 def test_switches_and_loops_are_conditions() -> None:

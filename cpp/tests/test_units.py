@@ -9,7 +9,7 @@ from gammonfig_cpp.errors import ReadError
 from gammonfig_cpp.model import Condition, Place
 from gammonfig_cpp.naming import LONGEST, free_name, identifier
 from gammonfig_cpp.places import Places
-from gammonfig_cpp.qtmodel import Table
+from gammonfig_cpp.qtmodel import QtWire, Table
 from gammonfig_cpp.units import flags_of, is_generated, units_of
 
 
@@ -88,11 +88,12 @@ def test_a_table() -> None:
     assert table.entries[('QTimer', 'start')].posts == ['timeout']
     assert table.entries[('QDialog', 'done')].emits == ['accepted', 'finished', 'rejected']
     assert table.entries[('QMenu', 'exec')].modal and not table.entries[('QDialog', 'done')].modal
-    assert table.wires == [('QAction', 'triggered', 'QMenu', 'triggered'), ('QItemSelectionModel', 'currentChanged', 'QAbstractItemModel', 'setData')]
+    assert table.wires[0] == QtWire('QAction', 'triggered', 'QMenu', 'triggered')
+    assert QtWire('QAbstractItemModel', 'rowsInserted', 'QComboBox', 'currentIndexChanged', 'setModel') in table.wires
 
 
 @pytest.mark.parametrize('line', ['QAction.trigger', 'QAction emits x', 'QAction.trigger emit x', 'QAction.trigger emits', 'QAction.trigger emits a b',
-                                  'QAction.trigger emits a,', 'QAction.trigger modal a', 'QAction.trigger emits modal', 'wire A.b C.d'])
+                                  'QAction.trigger emits a,', 'QAction.trigger modal a', 'QAction.trigger emits modal', 'wire A.b C.d', 'wire A.b -> C.d by'])
 def test_a_bad_table(tmp_path: pathlib.Path, line: str) -> None:
     (tmp_path / 't').write_text('# first\n' + line + '\n')
     with pytest.raises(ReadError, match=':2: this is no line'):

@@ -73,3 +73,20 @@ signals:
 private:
     bool m_is_on = false;
 };
+
+class Apart : public QObject {
+    Q_OBJECT
+public:
+    void changes(Apart *given)
+    {
+        disconnect(given, &Apart::near, this, &Apart::follow);
+        connect(given, &Apart::far, this, &Apart::follow);
+        emit given->far();
+        connect(given, &Apart::near, this, &Apart::follow);
+        emit given->near();
+    }
+    void follow() {}
+signals:
+    void near();
+    void far();
+};

@@ -10,6 +10,9 @@ public:
     void setName(const QString &to) { if (m_name != to) { m_name = to; emit nameChanged(to); } }
     void setMuted(bool to) { if (to == m_muted) return; m_muted = to; emit mutedChanged(); }
     void setDepth(double to) { if (qFuzzyCompare(m_depth, to)) return; m_depth = to; emit depthChanged(to); }
+    void setPlace(int to) { if (std::exchange(m_place, to) != to) emit placeChanged(m_place); }
+    void setRank(int to) { if (to == qExchange(m_rank, to)) return; emit rankChanged(to); }
+    void setAfter(int to) { if (std::exchange(m_after, to + 1) != to) emit afterChanged(to); }
     void setAlways(int to) { m_always = to; emit alwaysChanged(to); }
     void setOther(int to) { if (m_other == to) return; m_other = to + 1; emit otherChanged(m_other); }
     void setClamped(int to) { to = qBound(0, to, 9); if (m_clamped == to) return; m_clamped = to; emit clampedChanged(to); }
@@ -23,6 +26,9 @@ signals:
     void nameChanged(const QString &to);
     void mutedChanged();
     void depthChanged(double to);
+    void placeChanged(int to);
+    void rankChanged(int to);
+    void afterChanged(int to);
     void alwaysChanged(int to);
     void otherChanged(int to);
     void clampedChanged(int to);
@@ -30,6 +36,7 @@ signals:
     void shareChanged(int to);
     void twiceChanged(int to);
 private:
+    int m_place = 0, m_rank = 0, m_after = 0;
     int m_level = 0, m_always = 0, m_other = 0, m_clamped = 0, m_inner = 0, m_share = 0, m_twice = 0;
     QString m_name;
     bool m_muted = false;

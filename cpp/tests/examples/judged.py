@@ -25,7 +25,9 @@ class Judged:
 
     def fits(self, example: str, finding: dict[str, Any]) -> bool:
         spots = {f"{it.get('file', '').rpartition('/')[2]}:{it.get('line')}" for it in (finding, *finding["chain"], *finding.get("also", ()))}
-        return self.example == example and self.rule == finding["rule"] and not spots.isdisjoint(self.places)
+        # A circle of which the verdict shows that it comes to rest has another rule, and is judged as before.
+        rule = finding["rule"].removeprefix("settling-")
+        return self.example == example and self.rule == rule and not spots.isdisjoint(self.places)
 
     def row(self) -> str:
         return f"| {self.example} | {self.rule} | {', '.join(self.places)} | {self.what} | {self.judged} |\n"

@@ -1,7 +1,7 @@
 """What came of each call, against what the table says of the function."""
 from dataclasses import dataclass, field
 
-from effects_table import Line, Table
+from effects_table import EDITOR, Line, QtWire, Table
 from qt_headers import Headers
 from table_program import Called, Note
 
@@ -122,9 +122,15 @@ def by_others(fact: Fact, lines: list[Line], table: Table) -> bool:
 
 def wired(fact: Fact, emitted: set[tuple[str, str]], table: Table) -> bool:
     """Whether Qt's own connections bring the signal about, or call the function, from another signal that came."""
-    return any(
-        name == fact.signal and to in fact.classes and (cls, signal) in emitted for cls, signal, to, name in table.wires
-    )
+    return any((it.cls, it.signal) in emitted and reaches(it, fact, table) for it in table.wires)
+
+
+def reaches(wire: QtWire, fact: Fact, table: Table) -> bool:
+    """Whether a connection leads to what came; that to a handler of an editor, to what the handler's line says."""
+    if wire.to != EDITOR:
+        return wire.name == fact.signal and wire.to in fact.classes
+    line = table.line(fact.classes, wire.name)
+    return fact.name == f"{EDITOR}::{wire.name}" or (line is not None and fact.signal in line.names("emits", "rarely"))
 
 
 @dataclass
@@ -190,13 +196,14 @@ def compare(calls: list[Called], table: Table, headers: Headers) -> tuple[list[F
     return list(findings.values()), used
 
 
-def wires_that_came(calls: list[Called], table: Table, headers: Headers) -> set[tuple[str, str, str, str]]:
+def wires_that_came(calls: list[Called], table: Table, headers: Headers) -> set[QtWire]:
     """Qt's own connections of which the signal and what it leads to came in one call."""
-    found: set[tuple[str, str, str, str]] = set()
+    found: set[QtWire] = set()
     for call in calls:
-        came = {kind: {(cls, it.name) for it in call.notes if it.once and it.kind == kind for cls in headers.public(it.classes)}
+        came = {kind: {(cls, it.name) for it in call.notes if it.once and it.kind == kind
+                       for cls in ([EDITOR] if it.classes == [EDITOR] else headers.public(it.classes))}
                 for kind in ("signal", "called")}
         if came["signal"]:
             led_to = came["signal"] | came["called"]
-            found |= {it for it in table.wires if (it[0], it[1]) in came["signal"] and (it[2], it[3]) in led_to}
+            found |= {it for it in table.wires if (it.cls, it.signal) in came["signal"] and (it.to, it.name) in led_to}
     return found

@@ -2,15 +2,33 @@
 import re
 from dataclasses import dataclass, field
 from pathlib import Path
+from typing import NamedTuple
 
 CLAUSES = ["emits", "inside", "rarely", "calls", "posts", "deletes", "later", "owns", "lays", "owner", "takes", "needs"]
 BARE = ["modal", "silent"]
+# What stands for a class: what a delegate makes to edit an item with.
+EDITOR = "editor"
 # What a function needs that the test program hasn't got, where it can't be called, or not in the state in which it does what its line says.
 NEEDS = {"database", "peer", "person", "screen", "thread"}
 
 
 class BadTable(Exception):
     """A line that isn't in the grammar: the sentence that says so."""
+
+
+class QtWire(NamedTuple):
+    """What Qt connects by itself; `by` names the function of the receiver that was handed the sender, where that matters; `once` is
+    what it doesn't do again before it has come back."""
+
+    cls: str
+    signal: str
+    to: str
+    name: str
+    by: str = ""
+    once: bool = False
+
+    def told(self) -> str:
+        return f"wire {self.cls}.{self.signal} -> {self.to}.{self.name}" + (f" by {self.by}" if self.by else "") + " once" * self.once
 
 
 @dataclass
@@ -29,7 +47,7 @@ class Line:
 @dataclass
 class Table:
     lines: dict[tuple[str, str], Line] = field(default_factory=dict)
-    wires: list[tuple[str, str, str, str]] = field(default_factory=list)
+    wires: list[QtWire] = field(default_factory=list)
     version: str = ""
 
     def line(self, chain: list[str], function: str) -> Line | None:
@@ -74,10 +92,10 @@ def parse(text: str) -> Table:
         line = whole.split("#")[0].strip()
         if not line:
             continue
-        wire = re.fullmatch(r"wire (\w+)\.(\w+) -> (\w+)\.(\w+)", line)
+        wire = re.fullmatch(r"wire (\w+)\.(\w+) -> (\w+)\.(\w+)(?: by (\w+))?( once)?", line)
         entry = re.fullmatch(r"(\w+)\.(\w+)\s+(.*)", line)
         if wire:
-            table.wires.append((wire[1], wire[2], wire[3], wire[4]))
+            table.wires.append(QtWire(wire[1], wire[2], wire[3], wire[4], wire[5] or "", bool(wire[6])))
         elif entry:
             made = Line(entry[1], entry[2], number)
             parse_clauses(made, entry[3], number)

@@ -144,9 +144,21 @@ private:
     static void called(const char *name) { recorder::calledOf("QAbstractItemView", name); }
 };
 
+class Editor : public QLineEdit
+{
+public:
+    using QLineEdit::QLineEdit;
+    void focusOutEvent(QFocusEvent *event) override
+    {
+        recorder::calledOf("editor", "focusOutEvent");
+        QLineEdit::focusOutEvent(event);
+    }
+};
+
 class ToldDelegate : public QStyledItemDelegate
 {
 public:
+    QWidget *createEditor(QWidget *parent, const QStyleOptionViewItem &, const QModelIndex &) const override { return new Editor(parent); }
     void setModelData(QWidget *editor, QAbstractItemModel *model, const QModelIndex &at) const override
     {
         recorder::calledOf("QAbstractItemDelegate", "setModelData");
@@ -233,6 +245,14 @@ void setUpModels()
            shown->setModel(it); s.other(shown->selectionModel()); shown->setCurrentIndex(it->index(0, 0)); return it;)
     SET_UP(QStandardItemModel, "shown by a view that tells", auto *it = s.filledModel(); auto *shown = s.other(new Told);
            shown->setModel(it); s.other(shown->selectionModel()); return it;)
+    SET_UP(QStandardItemModel, "shown by a box", auto *it = s.filledModel(); s.other(new QComboBox)->setModel(it); return it;)
+    SET_UP(QStandardItemModel, "empty, shown by a box", auto *it = new QStandardItemModel; s.other(new QComboBox)->setModel(it); return it;)
+    SET_UP(QStandardItemModel, "below a sorted proxy", auto *it = s.filledModel(); auto *above = s.other(new QSortFilterProxyModel);
+           above->setSourceModel(it); above->setFilterFixedString("row"); above->sort(0); return it;)
+    SET_UP(QStandardItemModel, "below a proxy that hides it", auto *it = s.filledModel(); auto *above = s.other(new QSortFilterProxyModel);
+           above->setSourceModel(it); above->setFilterRegularExpression("^(?!row)"); return it;)
+    SET_UP(QStandardItemModel, "below a plain proxy", auto *it = s.filledModel(); s.other(new QIdentityProxyModel)->setSourceModel(it); return it;)
+    SET_UP(QStandardItemModel, "below a transposed proxy", auto *it = s.filledModel(); s.other(new QTransposeProxyModel)->setSourceModel(it); return it;)
     SET_UP(QStringListModel, "three rows", auto *it = new QStringListModel({"c", "a", "b"}); s.model = it; return it;)
     SET_UP(QSortFilterProxyModel, "filtered", auto *it = proxy(s); it->setFilterFixedString("row"); s.model = it; return it;)
     SET_UP(QSortFilterProxyModel, "of all", auto *it = proxy(s); s.model = it; return it;)

@@ -14,7 +14,7 @@ from pathlib import Path
 sys.path.insert(0, str(Path(__file__).resolve().parent.parent))
 sys.path.insert(0, str(Path(__file__).resolve().parent))
 from comparing import Finding, Used, compare, wires_that_came
-from effects_table import BadTable, Line, Table, read
+from effects_table import EDITOR, BadTable, Line, QtWire, Table, read
 from needs import ROOT, Missing, cache, outside
 from proposing import proposed
 from qt_flags import query
@@ -36,7 +36,7 @@ def version(table: Table) -> str:
 
 def words(table: Table, headers: Headers) -> list[str]:
     """Lines whose class isn't Qt's."""
-    names = [line.cls for line in table.lines.values()] + [cls for wire in table.wires for cls in (wire[0], wire[2])]
+    names = [line.cls for line in table.lines.values()] + [cls for wire in table.wires for cls in (wire.cls, wire.to) if cls != EDITOR]
     return sorted({f"{name} is no class of Qt's headers" for name in names if name not in headers.bases and not name.startswith("QSql")})
 
 
@@ -76,12 +76,12 @@ def unshown(table: Table, used: Used) -> list[str]:
     return sorted(f"{cls}.{function}" for (cls, function), line in table.lines.items() if (cls, function) not in shown and not line.names("needs"))
 
 
-def tell_wires(table: Table, came: set[tuple[str, str, str, str]]) -> None:
+def tell_wires(table: Table, came: set[QtWire]) -> None:
     """The connections of the table that no call showed."""
     never = [it for it in table.wires if it not in came]
     print(f"{len(table.wires)} wires; {len(never)} of them never came")
-    for cls, signal, to, name in never:
-        print(f"  never came: wire {cls}.{signal} -> {to}.{name}")
+    for it in never:
+        print(f"  never came: {it.told()}")
 
 
 def tell_calls(calls: list[Called], folder: Path) -> int:

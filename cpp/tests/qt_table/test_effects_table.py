@@ -6,7 +6,7 @@ import pytest
 
 sys.path.insert(0, str(Path(__file__).resolve().parent.parent))
 sys.path.insert(0, str(Path(__file__).resolve().parent))
-from effects_table import BadTable, parse, read
+from effects_table import BadTable, QtWire, parse, read
 from needs import ROOT
 
 GOOD = """# Qt 6.4.2: what Qt does
@@ -14,6 +14,7 @@ QAction.trigger emits triggered, toggled calls actionEvent   # and more
 QDialog.exec modal calls setVisible
 QScrollArea.setWidget deletes QWidget owns 1
 wire QAction.triggered -> QMenu.triggered
+wire QTimer.timeout -> QMenu.aboutToShow by setTimer once
 """
 BAD = [
     "QAction trigger emits triggered",
@@ -28,13 +29,14 @@ BAD = [
     "QAction.trigger modal triggered",
     "QAction.trigger needs luck",
     "wire QAction.triggered QMenu.triggered",
+    "wire QAction.triggered -> QMenu.triggered by",
 ]
 
 
 def test_a_good_table_is_read() -> None:
     table = parse(GOOD)
     assert table.version == "6.4.2"
-    assert table.wires == [("QAction", "triggered", "QMenu", "triggered")]
+    assert table.wires == [QtWire("QAction", "triggered", "QMenu", "triggered"), QtWire("QTimer", "timeout", "QMenu", "aboutToShow", "setTimer", True)]
     assert table.lines[("QAction", "trigger")].clauses == {"emits": ["triggered", "toggled"], "calls": ["actionEvent"]}
     assert table.lines[("QDialog", "exec")].clauses == {"modal": [], "calls": ["setVisible"]}
 

@@ -1,0 +1,80 @@
+"""What Qt connects by itself, as the table says: by class, or an object to what a function was handed."""
+from __future__ import annotations
+
+from typing import Iterator
+
+from .calling import Calling
+from .objects import Element
+from .program import Key, Program, Wire
+from .qtmodel import EDITOR, QtWire
+
+Pair = tuple[Element, Element]
+
+
+class QtWires:
+    def __init__(self, program: Program, calling: Calling) -> None:
+        self.program, self.calling = program, calling
+        self.whole, self.objects = program.whole, program.objects
+        self._known: set[tuple[Element, Key, Element, Key]] = set()
+
+    def all(self) -> None:
+        """Wires where somebody listens to where they lead, or the application has the function."""
+        for _ in range(3):
+            heard, senders = {w.signal for w in self.program.wires}, {w.sender for w in self.program.wires}
+            for wire in self.calling.qt.table.wires:
+                for sender, receiver in self._handed(wire) if wire.by else self._of_classes(wire, senders):
+                    self._add(wire, sender, receiver, heard)
+
+    def _of_classes(self, wire: QtWire, senders: set[Element]) -> Iterator[Pair]:
+        """The classes of a wire that are there. What Qt makes itself, as the selection of a view, is there where somebody is connected
+        to it, or where the application has it tell what it tells."""
+        for a in self.whole.by_name.get(wire.sender, ()):
+            told = ('signal', self.whole.signal(a, wire.signal)) in self.program.members
+            for b in [a] if wire.receiver == EDITOR else self.whole.by_name.get(wire.receiver, []):
+                if (told or self._is_there(a, senders)) and (wire.receiver == EDITOR or self._is_there(b, senders)):
+                    yield Element('class', a), Element('class', b)
+
+    def _is_there(self, cls: str, senders: set[Element]) -> bool:
+        return self.calling.is_present(cls) or Element('class', cls) in senders
+
+    def _handed(self, wire: QtWire) -> Iterator[Pair]:
+        """What a function was handed, and the objects on which it was called."""
+        for handed in self.whole.handed if wire.by else ():
+            if handed.name == wire.by and self.whole.is_named(handed.cls, wire.receiver):
+                for receiver in sorted(self.objects.elements(handed.on, handed.cls)):
+                    for _, value in handed.given:
+                        for sender in sorted(self.objects.elements(value)):
+                            yield from ((one, receiver) for one in self._others(sender, receiver) if self._is_named(one, wire.sender))
+
+    def _is_named(self, element: Element, name: str) -> bool:
+        return self.whole.is_named(self.objects.cls(element), name)
+
+    def _others(self, sender: Element, receiver: Element) -> list[Element]:
+        """The objects that one may be which isn't the receiver: of a class that has it, those of the classes below that haven't."""
+        own = self.objects.cls(receiver)
+        if sender.kind != 'class' or not self.whole.is_a(own, sender.key):
+            return [sender]
+        return [Element('class', cls) for cls in self.whole.below(sender.key)
+                if not self.whole.is_a(own, cls) and (self.objects.roles_of.get(cls) or self.whole.is_inside(cls))]
+
+    def _add(self, wire: QtWire, sender: Element, receiver: Element, heard: set[Key]) -> None:
+        whole, program, to = self.whole, self.program, self.objects.cls(receiver)
+        one = whole.signal(self.objects.cls(sender), wire.signal)
+        two = whole.signal(to, wire.member) if wire.receiver != EDITOR else None
+        if one is None:
+            return
+        if two is None:
+            name = f'{EDITOR}::{wire.member}' if wire.receiver == EDITOR else wire.member
+            for on, key in self.calling.callbacks(receiver, name):
+                self._connect(wire, (sender, one), on, key)
+        elif ('signal', two) in heard:
+            self._connect(wire, (sender, one), program.role(receiver), program.signal(two))
+
+    def _connect(self, of: QtWire, source: tuple[Element, str], receiver: Element, key: Key) -> None:
+        program, of_sender = self.program, self.program.signal(source[1])
+        wire = Wire(program.role(source[0]), of_sender, receiver, program.fitting(of_sender, key), 'direct', None, 'Qt connects them by itself',
+                    once=of.once)
+        known = (wire.sender, wire.signal, wire.receiver, wire.method)
+        if known not in self._known:
+            self._known.add(known)
+            program.wires.append(wire)

@@ -1,0 +1,67 @@
+"""Objects behind shared and guarded pointers, and those that others tell of: a parent, a server, an event loop."""
+import json
+
+from reading import case
+from gammonfig_cpp.watching import Watching
+
+
+def test_a_guarded_pointer_deletes_nothing_by_itself() -> None:
+    found = case('shared')
+    assert found.body('spendGuarded') == ['call this.to_Coin_m_guarded.spend();']
+    assert found.body('endGuarded') == ['delete this.to_Coin_m_guarded;', 'call this.to_Coin_m_guarded.Coin_gone();']
+    assert found.body('forgetGuarded') == ['call this.to_Coin_m_guarded.Coin_made("");']
+    assert found.body('delete_Coin') == found.body('endGuarded')
+    assert 'wire Purse posted_30() -> Functions delete_Coin() queued;' in found.wires()
+
+
+def test_shared_pointers_lead_to_what_they_hold() -> None:
+    found = case('shared')
+    for slot, role in (('Shared', 'm_shared'), ('Weak', 'm_shared'), ('Copy', 'm_shared'), ('Standard', 'm_standard'), ('Watched', 'm_standard'),
+                       ('Each', 'm_many')):
+        assert found.body(f'spend{slot}') == [f'call this.to_Coin_{role}.spend();'], 'a copy that leaves its scope ends nothing'
+    for name in ('guarded', 'shared', 'standard'):
+        assert f'wire Coin_m_{name} spent() -> Purse count() auto;' in found.wires()
+
+
+def test_what_a_function_is_handed_to_fill_holds_what_it_put_in() -> None:
+    assert case('shared').body('spendFilled')[-1] == 'call this.to_Coin_out.spend();', 'a shared pointer by reference'
+    assert case('shared').body('spendPicked') == ['call this.pick("");', 'call this.to_Coin_m_guarded.spend();'], 'a pointer by its address'
+
+
+def test_a_shared_pointer_that_is_given_up_may_end_its_object() -> None:
+    found = case('shared')
+    for slot, role in (('endShared', 'm_shared'), ('clearShared', 'm_shared'), ('replaceShared', 'm_shared'), ('endStandard', 'm_standard'),
+                       ('emptyStandard', 'm_standard'), ('nullStandard', 'm_standard'), ('replaceStandard', 'm_standard'), ('endEach', 'm_many')):
+        assert found.body(slot) == [f'delete this.to_Coin_{role};', f'call this.to_Coin_{role}.Coin_gone();'], slot
+    assert 'slot forgetWeak' not in found.text
+
+
+def test_members_own_what_they_hold_by_owning_pointers() -> None:
+    found = case('shared')
+    owned = [line for line in found.text.split('\n') if line.startswith('owns ')]
+    assert sorted(owned) == [f'owns Purse Coin_m_{name};' for name in ('guarded', 'many', 'shared', 'standard')], 'the guarded one by its parent'
+    assert sorted(found.body('Purse_parts_gone')) == [f'call this.to_Coin_m_{name}.Coin_gone();' for name in ('guarded', 'many', 'shared', 'standard')]
+
+
+def test_a_parent_may_be_any_object_of_its_class() -> None:
+    found = case('visits')
+    assert found.body('push') == found.body('pushCarefully') == ['call this.to_Hall.open();'], 'what it is cast to'
+    assert 'wire Hall opened() -> Door creak() auto;' in found.wires()
+    assert found.body('endHall') == ['delete this.to_Hall;', 'call this.to_Hall.Hall_gone();']
+    assert found.body('endParent') == ['delete this.to_QObject;', 'call this.to_Hall.Hall_gone();']
+    assert 'to_Cellar' not in found.text, 'and no cellar is opened'
+
+
+def test_the_next_connection_of_a_server_is_an_object_of_its_own() -> None:
+    found = case('visits')
+    assert 'wire QTcpSocket disconnected() -> Host leave() auto;' in found.wires()
+    assert found.body('send') == ['call this.to_QTcpSocket.disconnectFromHost();']
+    assert found.body('disconnectFromHost') == ['emit disconnected();']
+    assert 'owns Host QTcpSocket;' in found.text
+
+
+def test_processed_events_may_call_the_slot_again() -> None:
+    found = case('visits')
+    assert sorted(place.line for place in found.linked.program.modal.values()) == [78, 79]
+    told = json.loads(Watching(found.linked.program, found.written.names, found.written.places).text())['findings']
+    assert [(f['rule'], f['line']) for f in told] == [('re-entry', 78), ('re-entry', 79)]
