@@ -13,6 +13,7 @@ mod outcome;
 mod reasons;
 mod refusal;
 mod settling_commands;
+mod unloaded;
 mod ways;
 
 pub use certificate_laws::{
@@ -31,3 +32,4 @@ pub use settling_commands::{
     SettlingOutcome, certify_settling, certify_settling_outcome, check_settling,
     check_settling_outcome, load_settling, settling_is_agreed,
 };
+pub use unloaded::Unloaded;

@@ -6,7 +6,7 @@ use crate::refusal::Refusal;
 use certificate_lang::{Certificate, read_certificate};
 use class_lang::{Limits, read_within};
 use meta_model::Meta;
-use meta_objects::FromProgram;
+use meta_objects::load;
 use rank_check::{Checked, examine};
 use std::alloc::Global;
 
@@ -15,7 +15,7 @@ pub fn load_program(alloc: Global, limits: Limits, program: &[u8]) -> Result<Met
     ensures { LoadsProgram limits program.now result }
 {
     let program = read_within(alloc, limits, program)?;
-    let meta = Meta::build(alloc, &program)?;
+    let meta = load(alloc, &program)?;
     Ok(meta)
 }
 

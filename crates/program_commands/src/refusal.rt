@@ -4,10 +4,11 @@ ghost use Rattle.std.specs.Prelude.{◌≡◌};
 ghost use Rattle.command_lines.specs.Sent.{Puts};
 ghost use Rattle.program_commands.specs.Refusals.{refusal_line, refusal_number, refusal_status, line_of, script_line, script_number, status_of};
 
+use crate::unloaded::Unloaded;
 use certificate_lang::CertificateFault;
 use class_lang::TextFault;
+use class_outlines::LoadFault;
 use command_lines::Output;
-use meta_objects::MetaFault;
 use native_slots::Misfit;
 use rank_check::{Denied, No};
 use script_lang::ScriptFault;
@@ -22,7 +23,7 @@ pub enum Refusal {
     Text(TextFault),
     /// The program doesn't load.
     #[error(transparent)]
-    Loading(MetaFault),
+    Loading(Unloaded),
     /// The certificate can't be read.
     #[error(transparent)]
     Certificate(CertificateFault),
@@ -55,7 +56,7 @@ impl Refusal {
     {
         match self {
             Refusal::Text(fault) => fault.number(),
-            Refusal::Loading(fault) => fault.number(),
+            Refusal::Loading(unloaded) => unloaded.number(),
             Refusal::Certificate(fault) => fault.number(),
             Refusal::Script(fault) => number_of_script(fault),
             Refusal::Check(denied) => denied.no().number(),
@@ -70,7 +71,7 @@ impl Refusal {
     {
         match self {
             Refusal::Text(fault) => status_or_undone(REFUSED, fault.number()),
-            Refusal::Loading(fault) => status_or_undone(REFUSED, fault.number()),
+            Refusal::Loading(unloaded) => status_or_undone(REFUSED, unloaded.number()),
             Refusal::Certificate(fault) => status_or_undone(REFUSED, fault.number()),
             Refusal::Script(fault) => status_or_undone(REFUSED, number_of_script(fault)),
             Refusal::Check(denied) => status_or_undone(DENIED, denied.no().number()),
@@ -85,7 +86,7 @@ impl Refusal {
     {
         match self {
             Refusal::Text(fault) => put_line(output, b"refused ", fault.number()),
-            Refusal::Loading(fault) => put_line(output, b"refused ", fault.number()),
+            Refusal::Loading(unloaded) => put_line(output, b"refused ", unloaded.number()),
             Refusal::Certificate(fault) => put_line(output, b"refused ", fault.number()),
             Refusal::Script(fault) => put_script(output, fault),
             Refusal::Check(denied) => put_line(output, b"no ", denied.no().number()),
@@ -148,14 +149,15 @@ impl From<TextFault> for Refusal {
     }
 }
 
-impl From<MetaFault> for Refusal {
+impl From<LoadFault> for Refusal {
     ghost use Rattle.std.specs.Prelude.{◌≡◌};
+    ghost use Rattle.class_outlines.specs.Offences.{fault_told};
     ghost use Rattle.program_commands.specs.declared.refusal.Refusal.TheVariants.{Loading};
 
-    ghost from_gives = { λ fault refusal. refusal ≡ Loading fault };
+    ghost from_gives = { λ fault refusal. refusal ≡ Loading (fault_told fault) };
 
-    fn from(fault: MetaFault) -> Refusal {
-        Refusal::Loading(fault)
+    fn from(fault: LoadFault) -> Refusal {
+        Refusal::Loading(Unloaded::new(fault))
     }
 }
 

@@ -17,7 +17,6 @@ use class_lang::{Limits, read_within};
 use effect_scan::Scan;
 use findings::{Edge, Finding, FindingSeverity, LevelChange, Levels, PlacedEdge, Rule, Verdict};
 use meta_model::Meta;
-use meta_objects::FromProgram;
 use program_commands::{
     Outcome, Refusal, SettlingOutcome, Why, certify_outcome, certify_settling_outcome,
     check_outcome,
@@ -397,6 +396,6 @@ fn gather(
 /// The declarations of the text, and the same with their names resolved.
 fn load(alloc: Global, limits: Limits, text: &[u8]) -> Result<(Program, Meta), Refusal> {
     let program = read_within(alloc, limits, text)?;
-    let meta = Meta::build(alloc, &program)?;
+    let meta = meta_objects::load(alloc, &program)?;
     Ok((program, meta))
 }

@@ -25,7 +25,11 @@ pub fn refusal_finding(
     let flaw = match refusal {
         Refusal::Text(_) => program_flaw(alloc, limits, text, number)?,
         Refusal::Certificate(_) => certificate_flaw(alloc, text)?,
-        _ => declaration_flaw(alloc, text, number)?,
+        Refusal::Loading(unloaded) => match unloaded.offence() {
+            Some(offence) => declaration_flaw(alloc, text, offence)?,
+            None => None,
+        },
+        _ => None,
     };
     let rule = Rule::of_refusal(number);
     match flaw {

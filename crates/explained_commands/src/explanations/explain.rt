@@ -170,7 +170,10 @@ fn flaw_of(
     };
     match refusal {
         Refusal::Text(_) => program_flaw(alloc, limits, source, number),
-        Refusal::Loading(_) => declaration_flaw(alloc, source, number),
+        Refusal::Loading(unloaded) => match unloaded.offence() {
+            Some(offence) => declaration_flaw(alloc, source, offence),
+            None => Ok(None),
+        },
         Refusal::Natives(misfit) => native_flaw(alloc, source, *misfit),
         Refusal::Certificate(_) => certificate_flaw(alloc, source),
         Refusal::Script(ScriptFault::BadLine(line)) => script_flaw(alloc, source, *line),

@@ -8,47 +8,25 @@ use crate::declarations::source::source_of;
 use crate::declarations::walk::first_token;
 use crate::declarations::words::ReportedOffence;
 use basic_types::Name;
-use class_outlines::{Declaration, LoadFault, Offence};
+use class_outlines::{Declaration, Offence};
 use diagnostics::Flaw;
-use meta_objects::load;
 use std::alloc::{AllocError, Global};
 use syntax_trees::Program;
 use texts::{PlacedToken, Token};
 
-/// The declaration for which loading refuses a program under this number: a class's name (10), a base (11), a name that
-/// appears twice (12), a name that isn't there (13), a notify signature (14) or a type (15). The place is that of the name
-/// that is wrong. `None` for other numbers, and where the text is no program.
-pub fn declaration_flaw(alloc: Global, text: &[u8], number: u8) -> Result<Option<Flaw>, AllocError>
-    ensures { IfOk result (λ flaw. IfSome flaw (λ f. f.at ≤ length text.now)) }
-{
-    match source_of(alloc, text)? {
-        Some(source) => {
-            let tokens = source.tokens.as_slice();
-            flaw_of(alloc, text, &source.program, tokens, number)
-        }
-        None => Ok(None),
-    }
-}
-
-/// The same of this program, whose text has these tokens.
-fn flaw_of(
+/// What is wrong with the declaration for which loading refuses a program of this text. The place is that of the name that is
+/// wrong. `None` where the text is no program.
+pub fn declaration_flaw(
     alloc: Global,
     text: &[u8],
-    program: &Program,
-    tokens: &[PlacedToken],
-    number: u8,
+    offence: &Offence,
 ) -> Result<Option<Flaw>, AllocError>
     ensures { IfOk result (λ flaw. IfSome flaw (λ f. f.at ≤ length text.now)) }
 {
-    let offence = match load(alloc, program) {
-        Err(LoadFault::Offence(offence)) => offence,
-        Err(LoadFault::Memory) => return Err(AllocError),
-        Ok(_) => return Ok(None),
-    };
-    if offence.number() != number {
+    let Some(source) = source_of(alloc, text)? else {
         return Ok(None);
-    }
-    match of_offence(alloc, program, tokens, &offence)? {
+    };
+    match of_offence(alloc, &source.program, source.tokens.as_slice(), offence)? {
         Some(flaw) => Ok(Some(flaw.within(0, text.len()))),
         None => Ok(None),
     }

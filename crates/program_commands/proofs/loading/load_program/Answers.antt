@@ -11,7 +11,7 @@ returns-in_err-program c =
 pub returns-in_err-meta : goal.returns-in_err-meta
 returns-in_err-meta c =
     let p = err_from_is_err_and c.from_residual-in_err-meta.result c.from_residual-in_err-meta.ensures.1 in
-    rw (p.1, p.2) (goes_on c.in_ok-program.program _ c.in_ok-program.ensures (fails _ c.in_err-meta.ensures))
+    rw (p.1, p.2) (goes_on c.in_ok-program.program _ c.in_ok-program.ensures (fails _ c.in_err-meta.ensures.0))
 
 pub returns : goal.returns
 returns c = goes_on c.in_ok-program.program _ c.in_ok-program.ensures (goes_on c.in_ok-meta.meta _ c.in_ok-meta.ensures refl)
