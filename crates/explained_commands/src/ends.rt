@@ -19,11 +19,22 @@ const SUCCESS: u8 = 0;
 /// The most bytes of an input in which a place is looked for.
 const MOST_EXPLAINED: usize = 8388608;
 
+/// What a command came to, once what is reported of its end is written.
+#[derive(Drop)]
+pub struct Explained<M: Drop> {
+    /// The exit status, or why the output couldn't be written.
+    pub status: Result<u8, WriteFault>,
+    /// Whether an event was refused and no comment in its line expects that.
+    pub is_unexpected: bool,
+    /// All that was read and made, which a process that ends with it needn't take apart.
+    pub answered: Answered<M>,
+}
+
 /// Does what the words say, on any object machine, as `trace_tool`'s `command` does, and then writes to `errors` what a
 /// person needs of this end: of the first `most_refusals` refused events why they were, what another answer than success
 /// means, or what is reported beside a yes, and why the input can't be read or the output can't be written. Where that fails
 /// nothing else changes. Where nothing is judged (`meta`, `run --unchecked`) nothing but refused events is reported beside
-/// success, and of `meta` nothing. `is_unexpected` gets whether an event was refused and no comment in its line expects that.
+/// success, and of `meta` nothing.
 pub fn explained_command<
     N: FittingNatives,
     M: ObjectMachine<Natives = N>,
@@ -38,31 +49,38 @@ pub fn explained_command<
     writer: &mut W,
     errors: &mut E,
     most_refusals: usize,
-    is_unexpected: &mut bool,
-) -> Result<u8, WriteFault>
+) -> Explained<M>
     ensures answers { let said = map (λ word. word.now) words.now in
         let heads = N.heads natives in
         WritesCommand N.gives heads natives said (R.remaining reader.old)
-        (W.contents writer.old) (W.contents writer.new) result }
+        (W.contents writer.old) (W.contents writer.new) result.status }
     ensures silent { let said = map (λ word. word.now) words.now in
-        IsUnjudged said → result ≡ Ok 0 → most_refusals ≡ 0 → errors.new ≡ errors.old }
+        IsUnjudged said → result.status ≡ Ok 0 → most_refusals ≡ 0 → errors.new ≡ errors.old }
     ensures meta { let said = map (λ word. word.now) words.now in
-        said ≡ codes "meta" ∷ [] → result ≡ Ok 0 → errors.new ≡ errors.old }
+        said ≡ codes "meta" ∷ [] → result.status ≡ Ok 0 → errors.new ≡ errors.old }
 {
     let answered = answer::<N, M, R, W>(alloc, words, reader, natives, writer);
     match answered.carried.written {
         Ok(status) => {
             tell_end(alloc, words, &answered, status, most_refusals, errors);
-            *is_unexpected = has_unexpected(
+            let is_unexpected = has_unexpected(
                 alloc,
                 explained_input(&answered),
                 answered.carried.refused.as_slice(),
             );
-            Ok(status)
+            Explained {
+                status: Ok(status),
+                is_unexpected,
+                answered,
+            }
         }
         Err(fault) => {
             tell_fault(errors, fault);
-            Err(fault)
+            Explained {
+                status: Err(fault),
+                is_unexpected: false,
+                answered,
+            }
         }
     }
 }

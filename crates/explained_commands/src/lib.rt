@@ -8,6 +8,6 @@ mod explanations;
 mod remarks;
 mod reports;
 
-pub use ends::{explained_command, tell_fault};
+pub use ends::{Explained, explained_command, tell_fault};
 pub use reports::{EXPLAIN, FIRST_REFUSALS, is_asked};
 pub use trace_tool::WriteFault;

@@ -12,7 +12,7 @@ use qt_runtime::Machine;
 use std::alloc::{AllocError, Global};
 use std::io::{ErrorKind, Write};
 use std::process::ExitCode;
-use std::{env, io};
+use std::{env, io, mem};
 
 /// The exit status of a run with `--strict` in which an event was refused that no comment expects.
 const UNEXPECTED: u8 = 3;
@@ -68,9 +68,8 @@ fn answer(rt: &HostRuntime, words: &[&str]) -> Result<ExitCode, AllocError> {
     let mut reader = rt.reader();
     let mut writer = io::writer(rt);
     let mut errors = rt.stderr();
-    let mut is_unexpected = false;
     let (words, is_strict) = without_strict(alloc, words)?;
-    let ended = explained_command::<Natives, Machine<Natives>, _, _, _>(
+    let explained = explained_command::<Natives, Machine<Natives>, _, _, _>(
         alloc,
         words.as_slice(),
         &mut reader,
@@ -78,12 +77,13 @@ fn answer(rt: &HostRuntime, words: &[&str]) -> Result<ExitCode, AllocError> {
         &mut writer,
         &mut errors,
         most_refusals,
-        &mut is_unexpected,
     );
-    let ended = match ended {
-        Ok(0) if is_strict && is_unexpected => Ok(UNEXPECTED),
+    let ended = match explained.status {
+        Ok(0) if is_strict && explained.is_unexpected => Ok(UNEXPECTED),
         ended => ended,
     };
+    // The process ends here: its memory goes back in one piece.
+    mem::forget(explained);
     Ok(flushed(ended, &mut writer, &mut errors))
 }
 

@@ -30,14 +30,13 @@ pub fn answered(
     let mut slots = Vec::new(alloc);
     slots.push(NativeSlot::new(class, sig, effects, work))?;
     let natives = Natives::of(slots);
-    let mut is_unexpected = false;
     let most_refusals = if tells_refusals {
         usize::MAX
     } else {
         FIRST_REFUSALS
     };
     let mut reader = input;
-    match explained_command::<Natives, Machine<Natives>, _, _, _>(
+    let explained = explained_command::<Natives, Machine<Natives>, _, _, _>(
         alloc,
         words,
         &mut reader,
@@ -45,8 +44,8 @@ pub fn answered(
         output,
         errors,
         most_refusals,
-        &mut is_unexpected,
-    ) {
+    );
+    match explained.status {
         Ok(status) => Ok(status),
         Err(WriteFault::Failed(fault)) => Err(fault),
     }
