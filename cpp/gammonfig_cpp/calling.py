@@ -1,16 +1,18 @@
 """Which functions a call may reach: virtual ones by the classes of the objects, Qt's own by the table."""
 from __future__ import annotations
 
-from typing import Collection, Iterator
+from typing import Collection, Iterator, Sequence
 
 from .deaths import Deaths
 from .editors import Editors
+from .items import Items
 from .model import Function, Parameter, Statement, Term, Value
 from .objects import FREE, Element
 from .program import Key, Member, Program, Step, Wire
 from .qtmodel import EDITOR, Entry, QtModel, Written
 from .relations import Related
 from .replacing import Replacing
+from .selections import MODEL, SELECTION
 
 
 class Calling:
@@ -20,11 +22,12 @@ class Calling:
         self._children: dict[Element, set[Element]] | None = None
         self._owned: dict[Element, set[Element]] = {}
         self._connected: set[Element] | None = None
-        self._callbacks: dict[tuple[Element, str], list[tuple[Element, Key]]] = {}
+        self._heard: set[str] | None = None
+        self._callbacks: dict[tuple[object, ...], list[tuple[Element, Key]]] = {}
         self._present: dict[str, bool] = {}
         self.deaths = Deaths(program, self)
         self.replacing = Replacing(program, qt, self)
-        self.editors = Editors(self)
+        self.editors, self.items = Editors(self), Items(self.objects)
         # The classes to whose `destroyed` something is connected; complete once all wires are there.
         self.watched = Related(self.objects, {Element('class', self.objects.cls(e)) for c in self.whole.connects
                                               if c.signal.name.split('(')[0] == 'destroyed'
@@ -70,7 +73,7 @@ class Calling:
         shown = method.shown if method is not None else statement.name
         steps, known = [], False
         for element, usr in self.reached(statement.function, shown, statement.name, found, statement.virtual):
-            target = self.target(element, usr, statement.name, self.lists(statement.on))
+            target = self.target(element, usr, statement.name, self.items.lists(statement.on))
             known = known or target is not None or self.is_known(element, usr, statement.name)
             if target is None:
                 continue
@@ -89,13 +92,6 @@ class Calling:
                 key = self.library(element, statement.name, [])
                 return [Step('call', key, program.role(element), (), statement.place, statement.conditions)], True
         return [], False
-
-    def lists(self, value: Value) -> frozenset[Element]:
-        """The lists, trees or tables that an item is one of, where that is known."""
-        values = self.whole.flows.get(value.key, []) if value.kind == 'variable' else [value]
-        if not values or not all(it.kind == 'class' and it.parts for it in values):
-            return frozenset()
-        return frozenset().union(*(self.objects.elements(it.parts[0]) for it in values))
 
     def target(self, element: Element, usr: str, name: str, lists: frozenset[Element] = frozenset()) -> Key | None:
         """The slot that stands for a function: with its body, or one of Qt of which something is known."""
@@ -127,7 +123,8 @@ class Calling:
         cls = self.objects.cls(element)
         found = self.qt.entry(cls, name)
         shown = f'{self.whole.name(found[0] if found else cls)}::{name}'
-        member = Member(key, element, name, 'slot', shown, None, parameters, library=True)
+        slot = f'{name[1:]}_gone' if name.startswith('~') else name
+        member = Member(key, element, slot, 'slot', shown, None, parameters, library=True)
         program.add(member)
         if found is not None:
             member.steps = self._library_steps(element, name, parameters, found[1], found[2], roles)
@@ -150,7 +147,7 @@ class Calling:
         for signal in entry.inside:
             steps += self._inside(element, signal)
         for function in entry.calls:
-            for target_element, target in self.callbacks(element, function):
+            for target_element, target in self.callbacks(element, function, lists):
                 steps.append(Step('call', target, target_element, words=f'{name} calls {function}'))
         for posted in entry.posts:
             steps += self._posts(element, posted)
@@ -218,8 +215,15 @@ class Calling:
             inner = [o for o in sorted(self.owned(element)) if whole.is_a(self.objects.cls(o), key)]
             if self.is_connected(Element('class', key)):
                 inner.append(Element('class', key))
+            inner += self._selections(element, key) if class_name == SELECTION else []
             steps += [Step('call', program.emitter(usr), program.role(o)) for o in inner if usr is not None]
         return list({s.same(): s for s in [*steps, *self._wired(element, class_name, signal)]}.values())
+
+    def _selections(self, view: Element, cls: str) -> list[Element]:
+        """The selection of a view, where somebody is connected to it; any, where it isn't known which view it is."""
+        heard = [it for it in self.objects.selections.views if self.is_connected(it)]
+        own = self.objects.selections.of(view)
+        return [it for it in heard if it == own] if own is not None else [Element('class', cls)] if heard else []
 
     def _wired(self, element: Element, class_name: str, signal: str) -> list[Step]:
         """What Qt itself connects to a signal of an object that it made in this one, as the selection of a view to functions of the view, its
@@ -228,7 +232,9 @@ class Calling:
         wires = [wire for wire in self.qt.table.wires if (wire.sender, wire.signal, wire.by) == (class_name, signal, '')]
         own = [self.whole.is_named(cls, wire.receiver) for wire in wires]
         for wire, is_own in zip(wires, own) if any(own) else ():
-            found = self.callbacks(element, wire.member if is_own else f'{wire.receiver}::{wire.member}')
+            models = self.objects.selections.models(element) if wire.receiver == MODEL and self.objects.selections.of(element) else ()
+            found = self.callbacks(element, wire.member if is_own else f'{wire.receiver}::{wire.member}') if not models else \
+                [target for model in sorted(models) for target in self.callbacks(model, wire.member)]
             steps += [Step('call', key, on, words=f'Qt connects {signal} to {wire.member}') for on, key in found]
         return steps
 
@@ -247,14 +253,16 @@ class Calling:
         dying = [element] if name == 'this' and self.deaths.deletes_itself(element) else []
         if name != 'this':
             dying = [o for o in sorted(self.owned(element)) if self.whole.is_named(self.objects.cls(o), name)]
-        program, steps = self.program, list[Step]()
-        for one in dying:
-            key = self.deaths.later(one, self.is_watched(one))
-            if key is not None:
-                signal = program.posted_by_qt(element, f'deletion_of_{self.whole.name(self.objects.cls(one))}')
-                program.wires.append(Wire(element, signal, FREE, key, 'queued', None, 'Qt posts a deletion'))
-                steps.append(Step('emit', signal))
-        return steps
+        return [step for one in dying for step in self.posted_deletion(element, one)]
+
+    def posted_deletion(self, element: Element, dying: Element) -> list[Step]:
+        """An object lets the event loop delete another one."""
+        key = self.deaths.later(dying, self.is_watched(dying))
+        if key is None:
+            return []
+        signal = self.program.posted_by_qt(element, f'deletion_of_{self.whole.name(self.objects.cls(dying))}')
+        self.program.wires.append(Wire(element, signal, FREE, key, 'queued', None, 'Qt posts a deletion'))
+        return [Step('emit', signal)]
 
     def is_present(self, cls: str) -> bool:
         """Whether the application has objects of a class."""
@@ -303,13 +311,15 @@ class Calling:
             for element in self.objects.elements(connect.sender, connect.sender_class):
                 if signal.kind == 'method' and not whole.is_a(self.objects.cls(element), signal.cls):
                     yield Element('class', signal.cls)
+                elif element in self.objects.selections.views:
+                    yield element
                 elif element.kind == 'class':
                     yield element
                     if signal.kind != 'method':
                         yield from (Element('class', b) for b in whole.below(element.key) if whole.signal(b, name) is not None)
 
-    def callbacks(self, element: Element, name: str) -> list[tuple[Element, Key]]:
-        """The application's functions that Qt calls back by a virtual function's name."""
+    def callbacks(self, element: Element, name: str, lists: Sequence[Element] = ()) -> list[tuple[Element, Key]]:
+        """The application's functions that Qt calls back by a virtual function's name; and Qt's own, of an item of some lists."""
         whole = self.whole
         if name.startswith('owned::'):
             return list(dict.fromkeys(t for o in sorted(self.owned(element)) for t in self.callbacks(o, name[7:])))
@@ -317,13 +327,15 @@ class Calling:
             return list(dict.fromkeys(t for o in self.editors.all() for t in self.callbacks(o, name[len(EDITOR) + 2:])))
         if '::' in name:
             class_name, name = name.split('::')
-            return [t for key in whole.by_name.get(class_name, ()) for t in self.callbacks(Element('class', key), name)]
-        known = self._callbacks.get((element, name))
+            classes = whole.by_name.get(class_name, ()) if self.items.may_reach(element, class_name) else ()
+            return [t for key in classes for t in self.callbacks(Element('class', key), name)]
+        asked = (element, name, *lists)
+        known = self._callbacks.get(asked)
         if known is None:
-            known = self._callbacks[(element, name)] = self._callbacks_of(element, name)
+            known = self._callbacks[asked] = self._callbacks_of(element, name, frozenset(lists))
         return known
 
-    def _callbacks_of(self, element: Element, name: str) -> list[tuple[Element, Key]]:
+    def _callbacks_of(self, element: Element, name: str, lists: frozenset[Element]) -> list[tuple[Element, Key]]:
         whole, out = self.whole, list[tuple[Element, Key]]()
         cls, seen = self.objects.cls(element), set[str]()
         for below in [cls] if element.kind == 'site' else whole.below(cls):
@@ -335,15 +347,15 @@ class Calling:
                         on = self.program.role(element) if element.kind == 'site' else self.program.of_class(above)
                         out.append((on, self.program.function(usr)))
                 if hit:
-                    out += self._of_qt(element, name, hit[0]) if below == cls and not whole.is_inside(above) else []
+                    out += self._of_qt(element, name, hit[0], lists) if below == cls and not whole.is_inside(above) else []
                     break
         return out
 
-    def _of_qt(self, element: Element, name: str, usr: str) -> list[tuple[Element, Key]]:
+    def _of_qt(self, element: Element, name: str, usr: str, lists: frozenset[Element]) -> list[tuple[Element, Key]]:
         """Qt's own virtual function, where the table has a line for it."""
         if self.qt.entry(self.objects.cls(element), name) is None:
             return []
-        key = self.library(element, name, list(self.whole.methods[usr][1].parameters))
+        key = self.library(element, name, list(self.whole.methods[usr][1].parameters), lists)
         return [(self.program.role(element), key)]
 
     def destructors(self, element: Element) -> list[Key]:
@@ -352,3 +364,21 @@ class Calling:
         classes = whole.above(cls) + (whole.below(cls) if element.kind == 'class' else [])
         found = [whole.destructor_of[c] for c in dict.fromkeys(classes) if c in whole.destructor_of]
         return [self.program.function(usr) for usr in found if usr in whole.functions]
+
+    def ends_of_qt(self, element: Element) -> list[tuple[Element, Key]]:
+        """Qt's own destructors that run when an object dies and tell something that somebody is connected to, by the table."""
+        cls, whole, out = self.objects.cls(element), self.whole, list[tuple[Element, Key]]()
+        below = [b for b in whole.below(cls)[1:] if self.is_present(b)] if element.kind == 'class' else []
+        for one in whole.above(cls) + below:
+            name = whole.name(one)
+            entry = self.qt.table.entries.get((name, f'~{name}')) if not whole.is_inside(one) else None
+            if entry is not None and self._is_heard(entry):
+                on = Element('class', one) if one in below else element
+                out.append((self.program.role(on), self.library(on, f'~{name}', [])))
+        return out
+
+    def _is_heard(self, entry: Entry) -> bool:
+        """Whether somebody may be connected to one of the signals that a function emits: one that is handed to a helper may be any."""
+        if self._heard is None:
+            self._heard = {c.signal.name.split('(')[0].strip() if c.signal.kind != 'parameter' else '' for c in self.whole.connects}
+        return '' in self._heard or any(name.rpartition('::')[2] in self._heard for name in (*entry.emits, *entry.inside))

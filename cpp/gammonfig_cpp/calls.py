@@ -128,6 +128,8 @@ class Calls:
         if cls and context.is_inside(call.referenced):
             if len(given) != 1 or context.classes.of(given[0].type) != cls:
                 self.construct(call, context.site(context.spot('T', call), call, cls, 'temporary'))
+        elif cls:
+            self.holders.note_deleter(given)
         self.rest(call)
 
     def _free(self, call: Cursor) -> None:
@@ -226,7 +228,7 @@ class Calls:
         statement.constant = bool(called.is_const_method()) or called.is_static_method()
         statement.terms = context.values.terms(given, parameters)
         self._block(statement)
-        if called.semantic_parent.kind in RECORDS and context.classes.is_object(statement.cls):
+        if called.semantic_parent.kind in RECORDS and context.classes.is_handed_over(statement.cls):
             self.special.owning(call, called.semantic_parent.spelling, called.spelling, value, given)
         if called.spelling.startswith('operator'):
             self.keeping.keep(on, given)
@@ -298,6 +300,7 @@ class Calls:
         context, called = self.context, call.referenced
         parent = called.semantic_parent
         if parent.kind not in RECORDS or parent.spelling in SMART | CONTAINERS:
+            self.holders.note_deleter(list(call.get_arguments()))
             return
         cls, given = context.classes.note(parent), list(call.get_arguments())
         called = self._declared_constructor(called)

@@ -27,6 +27,7 @@ class Deaths:
         for key in self.calling.destructors(element):
             owner = self.program.members[key].owner
             steps.append(Step('call', key, owner if element.kind == 'class' else self.program.role(element)))
+        steps += [Step('call', key, on) for on, key in self.calling.ends_of_qt(element)]
         with_it = self._with_it(element)
         return steps + ([Step('call', with_it, self.program.members[with_it].owner)] if with_it is not None else [])
 
@@ -45,7 +46,7 @@ class Deaths:
         if not self._places:
             self._places = {child: place for _, child, place in self.program.owners()}
         for child in children:
-            for step in self.steps(child):
+            for step in self.calling.posted_deletion(element, child) if self.objects.is_shared_later(child) else self.steps(child):
                 step.place = self._places.get(child)
                 member.steps.append(step)
         return key
@@ -66,7 +67,8 @@ class Deaths:
                 new = self._owned_by(todo.pop()) - found
                 found |= new
                 todo += new
-            known = self._acts[element] = any(self._may_lead_on(key[1]) for e in found for key in self.calling.destructors(e))
+            known = self._acts[element] = any(self._may_lead_on(key[1]) for e in found for key in self.calling.destructors(e)) \
+                or any(self.calling.ends_of_qt(e) for e in found)
         return known
 
     def _may_lead_on(self, destructor: str) -> bool:

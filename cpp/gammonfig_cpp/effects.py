@@ -165,6 +165,9 @@ class Effects:
         of_member = function.kind == 'destructor' and is_of_member(statement)
         for element in sorted(self.objects.elements(on, statement.cls)):
             role = program.role(element)
+            if statement.name == 'shared' and self.objects.is_shared_later(element):
+                steps += self._posted_deletion(element, statement, function)
+                continue
             if fresh and not self.calling.is_watched(element):
                 program.counts['deletions of what the function itself made'] += 1
             elif not of_member and self._matters(element):
@@ -178,15 +181,17 @@ class Effects:
 
     def _later(self, statement: Statement, function: Function) -> list[Step]:
         """`deleteLater`: the event loop deletes, which is told where somebody sees it."""
-        program, steps = self.program, list[Step]()
-        for element in sorted(self.objects.elements(statement.on, statement.cls or function.cls)):
-            key = self.calling.deaths.later(element, self.calling.is_watched(element))
-            if key is None:
-                continue
-            signal = program.posted(function, statement.place)
-            program.wires.append(Wire(program.owner_of(function), signal, FREE, key, 'queued', statement.place))
-            steps.append(Step('emit', signal, None, (), statement.place, statement.conditions))
-        return steps
+        found = sorted(self.objects.elements(statement.on, statement.cls or function.cls))
+        return [step for element in found for step in self._posted_deletion(element, statement, function)]
+
+    def _posted_deletion(self, element: Element, statement: Statement, function: Function) -> list[Step]:
+        program = self.program
+        key = self.calling.deaths.later(element, self.calling.is_watched(element))
+        if key is None:
+            return []
+        signal = program.posted(function, statement.place)
+        program.wires.append(Wire(program.owner_of(function), signal, FREE, key, 'queued', statement.place))
+        return [Step('emit', signal, None, (), statement.place, statement.conditions)]
 
     def _matters(self, element: Element) -> bool:
         """Whether an object's death may be seen: it is one of the application's, or a QObject, or of a class of the table."""

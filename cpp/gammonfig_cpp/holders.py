@@ -1,15 +1,21 @@
 """Smart pointers and containers: what they destroy, and what is put into them."""
 from __future__ import annotations
 
+import re
+
 from .classes import OF_OWNERS
 from .context import Context
-from .libclang import NAMES, VARIABLES, Cursor, K, strip
+from .libclang import NAMES, VARIABLES, Cursor, K, T, strip
+from .model import SHARED_LATER, SHARED_ONCE
 
 PUTTING = {'append', 'push_back', 'prepend', 'insert', 'enqueue', 'push', 'emplace_back', 'operator=', 'operator+=', 'replace', 'push_front',
            'emplace', 'swap', 'set_value', 'reset', 'try_emplace', 'insert_or_assign', 'emplace_front'}
 TAKING_OUT = {'clear', 'erase', 'pop_back', 'pop_front', 'removeAt', 'remove', 'removeFirst', 'removeLast', 'removeAll', 'removeOne',
               'removeIf', 'resize', 'assign'}
 WEAK = ('QPointer', 'QWeakPointer', 'weak_ptr')
+SHARED = re.compile(r'\b(QSharedPointer|(__)?shared_ptr)<')
+# What a shared pointer is handed that has the event loop delete its object.
+DELETER = re.compile(r'&\s*\w+::deleteLater|\[\]\s*\(.*\)\s*\{\s*\w+->deleteLater\(\);\s*\}')
 
 
 class Holders:
@@ -26,7 +32,9 @@ class Holders:
         if self._destroys(holder, name, on) and not first:
             self._destroy(call, on)
         if given and (name in PUTTING or name.startswith('operator<<')):
-            self._put(on, given)
+            self._put(on, given[:1] if name == 'reset' else given)
+        if name == 'reset':
+            self.note_deleter(given)
 
     def _destroys(self, holder: str, name: str, on: Cursor) -> bool:
         if holder in WEAK:
@@ -42,8 +50,17 @@ class Holders:
         if cls:
             later = 'DeleteLater' in on.type.get_canonical().spelling
             statement = self.context.add('later' if later else 'delete', call, self.context.values.of(on))
-            statement.cls = cls
+            statement.cls, statement.name = cls, 'shared' if SHARED.search(on.type.get_canonical().spelling) else ''
             self.context.calls.possessing.tell(statement, on)
+
+    def note_deleter(self, given: list[Cursor]) -> None:
+        """A shared pointer is handed an object that it is to delete, and perhaps what does that. What is made there goes to no other."""
+        if not given or given[0].type.get_canonical().kind != T.POINTER or not self.context.classes.of(given[0].type):
+            return
+        if len(given) == 2 and DELETER.fullmatch(self.context.text(given[1])):
+            self.context.flow(SHARED_LATER, self.context.values.of(given[0]))
+        elif strip(given[0]).kind != K.CXX_NEW_EXPR:
+            self.context.flow(SHARED_ONCE, self.context.values.of(given[0]))
 
     def _put(self, on: Cursor, given: list[Cursor]) -> None:
         context, keeping, target = self.context, self.context.calls.keeping, strip(on)

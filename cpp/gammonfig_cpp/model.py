@@ -32,6 +32,8 @@ class Value:
 
 NONE = Value('none')
 NULL = Value('null')
+# What stand for variables: all objects that smart pointers delete, by the event loop (`deleteLater`) or at once.
+SHARED_LATER, SHARED_ONCE = 'D:later', 'D:once'
 
 
 @dataclass(frozen=True, slots=True)

@@ -7,8 +7,9 @@ from __future__ import annotations
 from collections import defaultdict, deque
 from typing import NamedTuple
 
-from .model import Value
+from .model import SHARED_LATER, SHARED_ONCE, Value
 from .qtmodel import QtModel
+from .selections import GIVING, Selections
 from .whole import Whole
 
 
@@ -30,7 +31,9 @@ class Objects:
         self.held_by: dict[str, set[Element]] = defaultdict(set)
         self._elements: dict[tuple[Value, str], frozenset[Element]] = {}
         self._stands_for: dict[str, Element] = {}
+        self.selections = Selections(self)
         self._solve()
+        self.selections.make_all(Element)
         self._gather_roles()
 
     def _called_from_outside(self) -> set[str]:
@@ -128,7 +131,7 @@ class Objects:
         if value.kind == 'variable':
             found.add(value.key)
         elif value.kind == 'result':
-            found.update('R:' + usr for usr in self._results(value.key))
+            found.update('R:' + usr for usr in self.results(value.key))
         elif value.kind in ('content', 'given'):
             found.add('')
         elif value.kind == 'sender' and ('S:' + value.key) not in found:
@@ -173,12 +176,19 @@ class Objects:
             return self._cast(value, final)
         if kind == 'content' or (kind == 'given' and self._is_given_away(value)):
             return self._content(value, final)
+        if kind == 'given' and value.key == GIVING:
+            return self._selections(value)
         if kind == 'given':
             return self._class(value.cls)
         found: set[Element] = set()
         for part in value.parts if kind == 'any' else ():
             found |= self.resolve(part, final)
         return found
+
+    def _selections(self, value: Value) -> set[Element]:
+        """The selections of views; any, where it isn't known of which."""
+        found = [self.selections.of(view) for view in self.resolve(value.parts[0], True)]
+        return {e for e in found if e is not None} if found and None not in found else self._class(value.cls)
 
     def _is_given_away(self, value: Value) -> bool:
         """Whether a function of Qt gives away what the object has owned."""
@@ -197,7 +207,7 @@ class Objects:
             return self._class(value.cls)
         return found
 
-    def _results(self, usr: str) -> list[str]:
+    def results(self, usr: str) -> list[str]:
         """The functions whose result a call may have: of a virtual one those that override it too."""
         method = self.whole.method(usr)
         if method is None or not method.virtual:
@@ -206,7 +216,7 @@ class Objects:
 
     def _result(self, value: Value, final: bool) -> set[Element]:
         found: set[Element] = set()
-        for usr in self._results(value.key):
+        for usr in self.results(value.key):
             found |= self.may.get('R:' + usr, frozenset())
         if not found and final and 'R:' + value.key not in self.whole.flows:
             return self._class(value.cls)
@@ -244,6 +254,11 @@ class Objects:
             flows = self.whole.flows.get(key)
             return key in seen or (flows is not None and all(self.is_null(f, seen | {key}) for f in flows))
         return value.kind == 'null' or (value.kind in ('any', 'cast') and all(self.is_null(part, seen) for part in value.parts))
+
+    def is_shared_later(self, element: Element) -> bool:
+        """Whether shared pointers leave the deletion of what is made at a place to the event loop."""
+        later, once = (self.may.get(key, frozenset()) for key in (SHARED_LATER, SHARED_ONCE))
+        return element.kind == 'site' and element in later and element not in once
 
     def elements(self, value: Value, fallback: str = '') -> frozenset[Element]:
         """The elements of a value, where those of a class cover the places below it."""

@@ -19,6 +19,8 @@ SPECIAL = {('QObject', 'connect'), ('QObject', 'disconnect'), ('QMetaObject', 'i
            ('QObject', 'deleteLater'), ('QObject', 'blockSignals'), ('QObject', 'moveToThread'), ('QObject', 'setProperty'),
            ('QCoreApplication', 'sendEvent'), ('QMetaObject', 'connectSlotsByName'), ('QMetaObject', 'disconnect'),
            ('QSignalBlocker', 'unblock'), ('QSignalBlocker', 'reblock')}
+# Functions of trees that are handed a list of items.
+SEVERAL_ITEMS = {'addTopLevelItems', 'insertTopLevelItems', 'addChildren', 'insertChildren'}
 
 
 class Special:
@@ -125,7 +127,8 @@ class Special:
             handed.append((0, context.values.of(call)))
         for at, argument in enumerate(given, 1):
             cls = context.classes.of(argument.type)
-            if is_written(argument) and cls and argument.type.get_canonical().kind == T.POINTER and context.classes.is_handed_over(cls):
+            is_one = argument.type.get_canonical().kind == T.POINTER or name in SEVERAL_ITEMS
+            if is_written(argument) and cls and is_one and context.classes.is_handed_over(cls):
                 value = context.values.of(argument)
                 if value.kind not in ('null', 'none'):
                     handed.append((at, value))

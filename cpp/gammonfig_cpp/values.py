@@ -16,14 +16,16 @@ EXCHANGERS = ('exchange', 'qExchange')
 # Functions of Qt whose result is an object of their own making, or one that nobody else names: a place where one is made.
 FACTORIES = {'addAction', 'addMenu', 'addToolBar', 'addButton', 'nextPendingConnection', 'get', 'post', 'put', 'head', 'deleteResource',
              'sendCustomRequest', 'addSeparator', 'addRect', 'addText', 'addItem', 'addEllipse', 'addLine', 'addPixmap', 'addPath',
-             'addSimpleText', 'addPolygon', 'addWidget', 'create', 'addSection', 'addSubWindow', 'toggleViewAction'}
+             'addSimpleText', 'addPolygon', 'addWidget', 'create', 'addSection', 'addSubWindow', 'toggleViewAction', 'createUndoAction',
+             'createRedoAction'}
 FACTORY_CLASSES = {'QAction', 'QMenu', 'QToolBar', 'QPushButton', 'QTcpSocket', 'QLocalSocket', 'QNetworkReply', 'QGraphicsProxyWidget',
                    'QGraphicsRectItem', 'QGraphicsTextItem', 'QGraphicsLineItem', 'QGraphicsEllipseItem', 'QGraphicsPixmapItem',
                    'QGraphicsPathItem', 'QGraphicsSimpleTextItem', 'QGraphicsPolygonItem', 'QThread', 'QMdiSubWindow'}
 HELD = {'widget', 'currentWidget', 'centralWidget', 'itemAt', 'activeSubWindow', 'currentSubWindow', 'takeAt', 'cellWidget', 'indexWidget'}
-# Functions by which a list, a tree or a table gives one of its items.
-ITEMS = {'item', 'currentItem', 'itemAt', 'topLevelItem', 'itemFromIndex'}
-ITEM_WIDGETS = ('QListWidget', 'QTreeWidget', 'QTableWidget')
+# Functions by which a list, a tree or a table gives one of its items, or an item one of the same tree.
+ITEMS = {'item', 'currentItem', 'itemAt', 'topLevelItem', 'itemFromIndex', 'selectedItems', 'findItems', 'itemAbove', 'itemBelow', 'headerItem',
+         'invisibleRootItem', 'items', 'child', 'parent'}
+ITEM_WIDGETS = ('QListWidget', 'QTreeWidget', 'QTableWidget', 'QTreeWidgetItem')
 # Functions of Qt that may give away what an object has owned: the table says which of them do.
 GIVING_AWAY = re.compile('(take|remove|replace|set)[A-Z]')
 
@@ -153,7 +155,7 @@ class Values:
             return Value('content', cls=cls, parts=(holder,))
         if self.is_factory(name, cls):
             return self.made_by_call(cursor, cls)
-        if GIVING_AWAY.match(name):
+        if GIVING_AWAY.match(name) or name == 'selectionModel':
             return Value('given', name, cls, (self.of(on, depth + 1) if on is not None else self.context.this,))
         return None
 

@@ -23,7 +23,7 @@ from gammonfig_cpp.writing import Writing, Written  # noqa: E402
 
 # The modules of Qt that cases need beyond its core.
 MODULES = {**dict.fromkeys(('answers.cpp', 'visits.cpp'), 'Qt6Network'),
-           **dict.fromkeys(('ends.cpp', 'owners.cpp', 'views.cpp', 'widgets.cpp'), 'Qt6Widgets')}
+           **dict.fromkeys(('ends.cpp', 'items.cpp', 'owners.cpp', 'selections.cpp', 'views.cpp', 'widgets.cpp'), 'Qt6Widgets')}
 
 
 @functools.cache
@@ -74,5 +74,7 @@ class Case:
 def case(name: str, roles: str = 'member', lean: bool = False) -> Case:
     told = facts()[name]
     assert not told.errors, told.errors
-    linked = link([told], Table.read(os.path.join(CASES, 'qt.effects')), roles, lean)
+    own = os.path.join(CASES, f'{name}.effects')
+    table = own if os.path.exists(own) else os.path.join(CASES, 'qt.effects')
+    linked = link([told], Table.read(table), roles, lean)
     return Case(linked, Writing(linked.program, CASES).write())

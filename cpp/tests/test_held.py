@@ -1,5 +1,6 @@
 """Objects behind shared and guarded pointers, and those that others tell of: a parent, a server, an event loop."""
 import json
+import re
 
 from reading import case
 from gammonfig_cpp.watching import Watching
@@ -39,8 +40,18 @@ def test_a_shared_pointer_that_is_given_up_may_end_its_object() -> None:
 def test_members_own_what_they_hold_by_owning_pointers() -> None:
     found = case('shared')
     owned = [line for line in found.text.split('\n') if line.startswith('owns ')]
-    assert sorted(owned) == [f'owns Purse Coin_m_{name};' for name in ('guarded', 'many', 'shared', 'standard')], 'the guarded one by its parent'
-    assert sorted(found.body('Purse_parts_gone')) == [f'call this.to_Coin_m_{name}.Coin_gone();' for name in ('guarded', 'many', 'shared', 'standard')]
+    names = [*(f'm_{name}' for name in ('guarded', 'lent', 'many', 'owed', 'shared', 'standard')), 'one']
+    assert sorted(owned) == [f'owns Purse Coin_{name};' for name in names], 'the guarded one by its parent'
+    at_once = [f'call this.to_Coin_{name}.Coin_gone();' for name in names if name not in ('m_lent', 'm_owed')]
+    assert sorted(found.body('Purse_parts_gone')) == [*at_once, 'emit posted_deletion_of_Coin();']
+
+
+def test_a_shared_pointer_may_leave_the_deletion_to_the_event_loop() -> None:
+    found = case('shared')
+    for slot in ('lend', 'endLent', 'owe', 'endOwed'):
+        assert re.fullmatch(r'emit posted_\d+\(\);', found.body(slot)[0]), slot
+        assert not any(line.startswith('delete') for line in found.body(slot)), slot
+    assert found.body('endDoubted')[0] == 'delete this.to_Coin_one;', 'one that may be deleted at once too'
 
 
 def test_a_parent_may_be_any_object_of_its_class() -> None:

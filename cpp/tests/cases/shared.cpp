@@ -50,6 +50,16 @@ public:
     void pick(Coin **out) { *out = m_guarded; }
     void spendPicked() { Coin *one = nullptr; pick(&one); one->spend(); }
     void end() { delete this; }
+
+    void lend() { m_lent = QSharedPointer<Coin>(new Coin, &QObject::deleteLater); }
+    void endLent() { m_lent.reset(); }
+    void owe() { m_owed.reset(new Coin, [](Coin *it) { it->deleteLater(); }); }
+    void endOwed() { m_owed.reset(); }
+    void doubt(bool later) {
+        auto *one = new Coin;
+        m_doubted = later ? QSharedPointer<Coin>(one, &QObject::deleteLater) : QSharedPointer<Coin>(one);
+    }
+    void endDoubted() { m_doubted.reset(); }
 signals:
     void counted();
 private:
@@ -59,4 +69,7 @@ private:
     QWeakPointer<Coin> m_weak;
     std::weak_ptr<Coin> m_watched;
     QList<QSharedPointer<Coin>> m_many;
+    QSharedPointer<Coin> m_lent;
+    std::shared_ptr<Coin> m_owed;
+    QSharedPointer<Coin> m_doubted;
 };

@@ -81,8 +81,8 @@ def facts(calls: list[Called], headers: Headers) -> list[Fact]:
         for note in call.notes:
             if ignored(note, headers) or (not note.once and (looped or note.kind != "deleted")):
                 continue
-            if note.kind == "deleted" and note.whose != "self" and dead:
-                continue          # what an object owns dies with it
+            if note.kind == "deleted" and dead and (note.whose != "self" or call.function.startswith("~")):
+                continue          # what an object owns dies with it, and it does by its destructor
             if note.kind == "called" and note.whose == "self" and note.name == call.function:
                 continue
             chain, function, declared = chain_of(call, headers), call.function, call.cls
@@ -126,9 +126,10 @@ def wired(fact: Fact, emitted: set[tuple[str, str]], table: Table) -> bool:
 
 
 def reaches(wire: QtWire, fact: Fact, table: Table) -> bool:
-    """Whether a connection leads to what came; that to a handler of an editor, to what the handler's line says."""
+    """Whether a connection leads to what came; that to a function, to what the function's line says."""
     if wire.to != EDITOR:
-        return wire.name == fact.signal and wire.to in fact.classes
+        line = table.lines.get((wire.to, wire.name))
+        return wire.to in fact.classes and (wire.name == fact.signal or line is not None and fact.signal in line.names("emits", "rarely"))
     line = table.line(fact.classes, wire.name)
     return fact.name == f"{EDITOR}::{wire.name}" or (line is not None and fact.signal in line.names("emits", "rarely"))
 
@@ -205,5 +206,11 @@ def wires_that_came(calls: list[Called], table: Table, headers: Headers) -> set[
                 for kind in ("signal", "called")}
         if came["signal"]:
             led_to = came["signal"] | came["called"]
-            found |= {it for it in table.wires if (it.cls, it.signal) in came["signal"] and (it.to, it.name) in led_to}
+            found |= {it for it in table.wires if (it.cls, it.signal) in came["signal"] and led_to & ends_of(it, table)}
     return found
+
+
+def ends_of(wire: QtWire, table: Table) -> set[tuple[str, str]]:
+    """What shows that a connection's end came: itself, or, of a function of Qt, a signal of its line."""
+    line = table.lines.get((wire.to, wire.name))
+    return {(wire.to, wire.name), *((wire.to, name) for name in (line.names("emits", "rarely") if line else []))}

@@ -93,7 +93,7 @@ def parse(text: str) -> Table:
         if not line:
             continue
         wire = re.fullmatch(r"wire (\w+)\.(\w+) -> (\w+)\.(\w+)(?: by (\w+))?( once)?", line)
-        entry = re.fullmatch(r"(\w+)\.(\w+)\s+(.*)", line)
+        entry = re.fullmatch(r"(\w+)\.(~?\w+)\s+(.*)", line)
         if wire:
             table.wires.append(QtWire(wire[1], wire[2], wire[3], wire[4], wire[5] or "", bool(wire[6])))
         elif entry:

@@ -81,6 +81,9 @@ void setUpAnimations()
 
 void setUpNetwork()
 {
+    CALL(QAbstractSocket, ~QAbstractSocket, delete &it;)
+    CALL(QLocalSocket, ~QLocalSocket, delete &it;)
+    CALL(QProcess, ~QProcess, delete &it;)
     SET_UP(QTcpSocket, "unconnected", return new QTcpSocket;)
     SET_UP(QTcpSocket, "connected", return connected(s);)
     SET_UP(QUdpSocket, "bound", auto *it = new QUdpSocket; it->bind(QHostAddress::LocalHost, 0); return it;)

@@ -184,6 +184,65 @@ QTableView *edited(Scene &s)
     return it;
 }
 
+// Items of which it is told that Qt sets their values.
+template <class T> class Set : public T
+{
+public:
+    using T::T;
+    void setData(int role, const QVariant &value) override { recorder::called("setData"); T::setData(role, value); }
+};
+
+class SetTreeItem : public QTreeWidgetItem
+{
+public:
+    using QTreeWidgetItem::QTreeWidgetItem;
+    void setData(int column, int role, const QVariant &value) override
+    {
+        recorder::called("setData");
+        recorder::calledOf("QTreeWidgetItem", "setData");
+        QTreeWidgetItem::setData(column, role, value);
+    }
+};
+
+class SetStandardItem : public QStandardItem
+{
+public:
+    using QStandardItem::QStandardItem;
+    QStandardItem *clone() const override { recorder::calledOf("QStandardItem", "clone"); return new SetStandardItem; }
+    void setData(const QVariant &value, int role) override
+    {
+        recorder::called("setData");
+        recorder::calledOf("QStandardItem", "setData");
+        QStandardItem::setData(value, role);
+    }
+};
+
+class SetTableItem : public QTableWidgetItem
+{
+public:
+    using QTableWidgetItem::QTableWidgetItem;
+    QTableWidgetItem *clone() const override { recorder::calledOf("QTableWidgetItem", "clone"); return new SetTableItem; }
+    void setData(int role, const QVariant &value) override
+    {
+        recorder::calledOf("QTableWidgetItem", "setData");
+        QTableWidgetItem::setData(role, value);
+    }
+};
+
+QTableWidget *cloning()
+{
+    auto *it = new QTableWidget(2, 2);
+    it->setItemPrototype(new SetTableItem);
+    return it;
+}
+
+QStandardItemModel *cloningModel()
+{
+    auto *it = new QStandardItemModel(2, 2);
+    it->setItemPrototype(new SetStandardItem);
+    return it;
+}
+
 QListWidget *list(Scene &s)
 {
     auto *it = new QListWidget;
@@ -230,6 +289,19 @@ void setUpItems()
     SET_UP(QTreeWidget, "expanded", auto *it = tree(s); it->expandAll(); it->setCurrentItem(it->topLevelItem(1)->child(0)); return it;)
     SET_UP(QTreeWidgetItem, "of a tree", auto *it = s.other(tree(s)); return it->topLevelItem(1);)
     SET_UP(QTreeWidgetItem, "the current one, expanded", auto *it = s.other(tree(s)); it->expandAll(); return it->topLevelItem(0);)
+    SET_UP(QListWidgetItem, "that tells", auto *it = s.other(list(s)); return static_cast<QListWidgetItem *>(new Set<QListWidgetItem>(it));)
+    SET_UP(QTableWidgetItem, "that tells", auto *it = s.other(table(s)); auto *item = new Set<QTableWidgetItem>; it->setItem(0, 1, item);
+           return static_cast<QTableWidgetItem *>(item);)
+    SET_UP(QTreeWidgetItem, "that tells", auto *it = s.other(tree(s)); auto *item = new SetTreeItem(it);
+           item->setFlags(item->flags() | Qt::ItemIsAutoTristate); (new SetTreeItem(item))->setCheckState(0, Qt::Unchecked);
+           return static_cast<QTreeWidgetItem *>(item);)
+    SET_UP(QTreeWidget, "whose header tells", auto *it = tree(s); it->setHeaderItem(new SetTreeItem); return it;)
+    SET_UP(QTableWidget, "that clones", return cloning();)
+    SET_UP(QStandardItemModel, "that clones", return cloningModel();)
+    SET_UP(QStandardItem, "that tells", auto *it = s.filledModel(); auto *item = new SetStandardItem; it->appendRow(item);
+           return static_cast<QStandardItem *>(item);)
+    SET_UP(QItemSelectionModel, "of a table with an open editor", auto *it = s.other(table(s)); auto *item = new SetTableItem;
+           it->setItem(0, 0, item); it->show(); it->editItem(item); return it->selectionModel();)
     SET_UP(QStandardItem, "of a model", auto *it = s.filledModel(); return it->item(1, 0);)
     SET_UP(QStandardItem, "checkable", auto *it = s.filledModel(); it->item(0, 0)->setCheckable(true);
            it->item(0, 0)->setAutoTristate(true); it->item(0, 0)->child(0)->setCheckable(true); return it->item(0, 0)->child(0);)

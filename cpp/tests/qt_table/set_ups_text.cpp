@@ -59,6 +59,15 @@ QMovie *movie(Scene &s)
     return new QMovie(file);
 }
 
+void undone(QTextDocument *it)
+{
+    QTextCursor(it).insertText("some words");
+    QTextCursor last(it);
+    last.movePosition(QTextCursor::End);
+    last.insertBlock();
+    it->undo();
+}
+
 void setUpActions()
 {
     SET_UP(QAction, "plain", return new QAction("text");)
@@ -74,6 +83,11 @@ void setUpActions()
     SET_UP(QUndoStack, "empty", return new QUndoStack;)
     SET_UP(QUndoStack, "in a group", auto *it = filledStack(); auto *group = s.other(new QUndoGroup); group->addStack(it);
            group->setActiveStack(it); return it;)
+    SET_UP(QUndoStack, "with actions", auto *it = filledStack(); s.other(it->createUndoAction(nullptr));
+           s.other(it->createRedoAction(nullptr)); return it;)
+    SET_UP(QAction, "that undoes", return s.other(filledStack())->createUndoAction(nullptr);)
+    SET_UP(QAction, "that undoes for a group", auto *group = s.other(new QUndoGroup); auto *stack = s.other(filledStack());
+           group->addStack(stack); group->setActiveStack(stack); return group->createUndoAction(nullptr);)
     SET_UP(QUndoGroup, "two stacks", auto *it = new QUndoGroup; it->addStack(s.other(new QUndoStack));
            auto *stack = s.other(filledStack()); it->addStack(stack); it->setActiveStack(stack); return it;)
     SET_UP(QClipboard, "the application's", QGuiApplication::clipboard()->setText("before"); return QGuiApplication::clipboard();)
@@ -87,6 +101,8 @@ void setUpActions()
 
 void setUpTexts()
 {
+    CALL(QTextList, add, it.add(it.document()->lastBlock());)
+    CALL(QUndoStack, ~QUndoStack, delete &it;)
     CALL(QUndoStack, push, it.push(new Command); it.push(new Command);)
     SET_UP(QTextDocument, "alone", auto *it = new QTextDocument; it->setHtml(html); it->setModified(true); return it;)
     SET_UP(QTextDocument, "of an editor", auto *edit = s.other(filledEdit<QTextEdit>(s)); return s.other(edit->document());)
@@ -102,6 +118,11 @@ void setUpTexts()
     SET_UP(QTextEdit, "empty", return new QTextEdit;)
     SET_UP(QTextEdit, "with a selection", return filledEdit<QTextEdit>(s);)
     SET_UP(QTextEdit, "of formats", auto *it = new QTextEdit; it->setHtml(html); it->selectAll(); return it;)
+    SET_UP(QTextDocument, "with something to redo", auto *it = new QTextDocument; undone(it); return it;)
+    SET_UP(QTextCursor, "with something to redo", auto *it = s.other(new QTextDocument); undone(it);
+           static QTextCursor cursor; cursor = QTextCursor(it); cursor.select(QTextCursor::LineUnderCursor); return &cursor;)
+    SET_UP(QTextEdit, "with something to redo", auto *it = new QTextEdit; undone(it->document()); it->selectAll(); return it;)
+    SET_UP(QPlainTextEdit, "with something to redo", auto *it = new QPlainTextEdit; undone(it->document()); it->selectAll(); return it;)
     SET_UP(QTextBrowser, "plain", auto *it = new QTextBrowser; it->setHtml(html); return it;)
     SET_UP(QTextBrowser, "with a history", static QTemporaryDir places;
            for (const char *name : {"a.html", "b.html"}) { QFile file(places.filePath(name)); file.open(QIODevice::WriteOnly);

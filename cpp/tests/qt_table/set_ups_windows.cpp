@@ -70,12 +70,17 @@ public:
         recorder::called("itemChange");
         return QGraphicsRectItem::itemChange(change, value);
     }
+    void focusInEvent(QFocusEvent *) override { recorder::called("focusInEvent"); }
+    void focusOutEvent(QFocusEvent *) override { recorder::called("focusOutEvent"); }
 };
 
 // As an item of which it is told what a scene calls.
 class Told : public QGraphicsRectItem
 {
 public:
+    Told() : QGraphicsRectItem(0, 0, 9, 9) { setFlags(ItemIsFocusable); }
+    void focusInEvent(QFocusEvent *) override { recorder::calledOf("QGraphicsItem", "focusInEvent"); }
+    void focusOutEvent(QFocusEvent *) override { recorder::calledOf("QGraphicsItem", "focusOutEvent"); }
     QVariant itemChange(GraphicsItemChange change, const QVariant &value) override
     {
         recorder::calledOf("QGraphicsItem", "itemChange");
@@ -116,6 +121,24 @@ QGraphicsScene *scene(Scene &s)
     auto *text = it->addText("text");
     text->setTextInteractionFlags(Qt::TextEditorInteraction);
     s.other(text);
+    return it;
+}
+
+// An item with the focus of its scene, which is active.
+QGraphicsItem *focused(QGraphicsScene &scene)
+{
+    QEvent on(QEvent::WindowActivate);
+    QCoreApplication::sendEvent(&scene, &on);
+    auto *item = new Told;
+    scene.addItem(item);
+    item->setFocus();
+    return item;
+}
+
+QGraphicsScene *active(Scene &s)
+{
+    auto *it = s.other(scene(s));
+    focused(*it);
     return it;
 }
 
@@ -174,6 +197,14 @@ void setUpGraphics()
     SET_UP(QGraphicsItem, "selected, with focus", auto *it = s.other(scene(s)); QEvent on(QEvent::WindowActivate);
            QCoreApplication::sendEvent(it, &on); auto *item = new Item; it->addItem(item); item->setSelected(true);
            item->setFocus(); return static_cast<QGraphicsItem *>(item);)
+    SET_UP(QGraphicsItem, "beside one with focus", auto *it = active(s); auto *item = new Item; it->addItem(item);
+           return static_cast<QGraphicsItem *>(item);)
+    SET_UP(QGraphicsItem, "around one with focus", auto *it = active(s); auto *item = new Item; it->addItem(item);
+           it->focusItem()->setParentItem(item); return static_cast<QGraphicsItem *>(item);)
+    CALL(QGraphicsScene, setFocusItem, QGraphicsItem *item = nullptr; { recorder::Pause quiet; focused(it); item = new Told; it.addItem(item); }
+         it.setFocusItem(item);)
+    CALL(QGraphicsScene, removeItem, QGraphicsItem *item = nullptr; { recorder::Pause quiet; item = focused(it); } it.removeItem(item);
+         delete item;)
     SET_UP(QGraphicsTextItem, "of a scene", auto *it = s.other(scene(s)); return it->addText("other text");)
     SET_UP(QGraphicsWidget, "of a scene", auto *it = s.other(scene(s)); auto *made = new QGraphicsWidget; it->addItem(made); return made;)
     SET_UP(QGraphicsProxyWidget, "of a scene", auto *it = s.other(scene(s)); return it->addWidget(new QLineEdit);)

@@ -1,0 +1,39 @@
+// Views, each with a selection of its own, which Qt makes.
+#include <QtWidgets>
+
+class Tree : public QTreeView {
+    Q_OBJECT
+public:
+    Tree() { connect(selectionModel(), &QItemSelectionModel::selectionChanged, this, &Tree::tell); }
+    void tell() { emit told(); }
+signals:
+    void told();
+};
+
+class Panes : public QWidget {
+    Q_OBJECT
+public:
+    explicit Panes(QTreeView *any) : m_any(any) {
+        m_left->setModel(m_tasks);
+        m_right->setModel(m_feeds);
+        m_tree->setModel(m_notes);
+        connect(m_left->selectionModel(), &QItemSelectionModel::selectionChanged, this, &Panes::left);
+        connect(m_right->selectionModel(), &QItemSelectionModel::selectionChanged, this, &Panes::right);
+    }
+    void shrink() { m_tasks->removeRow(0); }
+    void goLeft() { m_left->setCurrentIndex(QModelIndex()); }
+    void goAnywhere() { m_any->setCurrentIndex(QModelIndex()); }
+    void left() { emit leftMoved(); }
+    void right() { emit rightMoved(); }
+signals:
+    void leftMoved();
+    void rightMoved();
+private:
+    QTreeView *m_any;
+    QTreeView *m_left = new QTreeView(this);
+    QTreeView *m_right = new QTreeView(this);
+    Tree *m_tree = new Tree;
+    QStandardItemModel *m_tasks = new QStandardItemModel(this);
+    QStandardItemModel *m_feeds = new QStandardItemModel(this);
+    QStandardItemModel *m_notes = new QStandardItemModel(this);
+};

@@ -1,0 +1,56 @@
+"""Items that are no QObjects, and what makes actions that Qt connects."""
+from reading import case
+
+
+def test_qt_calls_the_functions_that_an_item_overrides() -> None:
+    found = case('items')
+    assert found.body('setText', 'QTableWidgetItem')[1:] == ['call this.to_QTableWidgetItem.setData_2(0, "");', 'call this.to_Cell.setData_3(0, "");']
+    assert found.body('setData_3', 'Cell') == ['call this.setData_4(role, value);', 'call this.to_Sheet.read();']
+
+
+def test_qts_own_function_of_an_item_tells_its_list_alone() -> None:
+    found = case('items')
+    assert found.body('setData_2', 'QTableWidgetItem') == ['call this.to_QTableWidget_m_table.emit_itemChanged("");']
+
+
+def test_a_model_of_which_nothing_is_known_may_be_that_of_items() -> None:
+    found = case('items')
+    calls = ['call this.to_QTableWidgetItem.setData(0, "");', 'call this.to_Cell.setData_3(0, "");']
+    assert found.body('setData', 'QAbstractItemModel') == calls
+    assert 'class Rows' not in found.text, 'a model of the application has no such items'
+
+
+def test_a_view_hands_over_what_was_edited_to_its_own_items() -> None:
+    found = case('items')
+    calls = ['call this.to_QTableWidgetItem.setData(0, "");', 'call this.to_Cell.setData_3(0, "");']
+    assert found.body('setCurrentCell') == calls, 'and to no other model'
+    assert found.body('setCurrentIndex', 'QTreeView_m_view') == ['call this.to_QAbstractItemModel.setData("", "", 0);']
+    assert found.body('setCurrentRow') == ['set this.currentRow = row;'], 'and a list to no item of a table'
+
+
+def test_an_item_tells_the_list_alone_that_it_was_handed_to() -> None:
+    found = case('items')
+    assert found.body('rename', 'Rules') == ['call this.to_QListWidgetItem.setText_2("");'], 'that of a map'
+    assert found.body('feed', 'Rules') == ['call this.to_QListWidgetItem.setText_3("");'], 'that of which a list tells'
+    told = {name: found.body(name, 'QListWidgetItem')[0] for name in ('setText', 'setText_2', 'setText_3')}
+    assert told == {name: f'call this.to_QListWidget_{member}.emit_itemChanged("");'
+                    for name, member in (('setText', 'm_list'), ('setText_2', 'm_rules'), ('setText_3', 'm_feeds'))}
+    assert found.body('setText', 'QTreeWidgetItem_other') == ['call this.to_QTreeWidget_m_tree.emit_itemChanged("", 0);'], 'as its parent'
+    moved = [line for line in found.body('setText_2', 'QTableWidgetItem_moved') if 'emit' in line]
+    assert moved == [f'call this.to_{table}.emit_itemChanged("");' for table in ('Rules_QTableWidget_m_table', 'QTableWidget_m_desk')], \
+        'one that is taken out may be in the other table'
+
+
+def test_an_action_that_a_stack_made_undoes() -> None:
+    found = case('items')
+    assert found.body('undo', 'QUndoStack') == ['emit indexChanged(0);', 'call this.to_Stroke.undo();']
+    by_qt = [line.split('  //')[0] for line in found.wires() if 'Qt connects' in line]
+    assert by_qt == ['wire QAction_m_undo triggered(int) -> QUndoStack undo() direct;',
+                     'wire QUndoStack canUndoChanged(int) -> QAction_m_undo setEnabled(int) direct;'], 'and no other action does'
+
+
+def test_qts_own_destructors_tell_what_ends() -> None:
+    found = case('items')
+    assert found.body('drop') == ['delete this.to_QUndoStack;', 'call this.to_QUndoStack.QUndoStack_gone();']
+    assert found.body('QUndoStack_gone') == ['emit indexChanged(0);']
+    assert found.body('Sheet_parts_gone') == ['call this.to_QUndoStack.QUndoStack_gone();'], 'which its parent ends'

@@ -1,0 +1,22 @@
+"""Selections that Qt makes: each view has one of its own."""
+from reading import case
+
+
+def test_a_selection_follows_the_model_of_its_own_view() -> None:
+    told = [w.split(' -> ') for w in case('selections').wires() if 'Qt connects' in w]
+    pairs = {sender.split()[1].removeprefix('QStandardItemModel_'): receiver.split()[0].removeprefix('QItemSelectionModel_')
+             for sender, receiver in told}
+    assert pairs == {'m_tasks': 'm_left_selection', 'm_feeds': 'm_right_selection', 'm_notes': 'Tree_selection'}
+    assert len(told) == 3, 'and no other'
+
+
+def test_a_connection_to_a_selection_is_to_that_of_its_view() -> None:
+    wires = case('selections').wires()
+    for selection, slot in (('m_left', 'Panes left()'), ('m_right', 'Panes right()'), ('Tree', 'Tree tell()')):
+        assert f'wire QItemSelectionModel_{selection}_selection selectionChanged(QString, QString) -> {slot} auto;' in wires
+
+
+def test_a_view_moves_its_own_selection_and_one_that_is_not_known_any() -> None:
+    found = case('selections')
+    assert found.body('setCurrentIndex_2') == ['call this.to_QItemSelectionModel_m_left_selection.emit_selectionChanged("", "");']
+    assert found.body('setCurrentIndex', 'QAbstractItemView') == ['call this.to_QItemSelectionModel.emit_selectionChanged("", "");']
