@@ -1,23 +1,17 @@
-"""What one unit says, as data: read by libclang, and kept by the sum of what was read."""
+"""What one unit says, as data: read by libclang."""
 from __future__ import annotations
 
-import hashlib
-import os
-import pickle
 import time
 
-from . import model
 from .bodies import Bodies
 from .calls import Calls
 from .classes import Classes
-from .cleaning import mark_used
 from .connects import Connects
 from .context import Context
-from .libclang import cindex, quick, version
+from .libclang import cindex, quick
 from .libraries import Includes
 from .model import Class, Facts
 from .naming_callees import Callees
-from .precompiled import Headers, stamp
 from .templates import any_in
 from .units import ANNOTATIONS, Unit, is_generated, real
 from .values import Values
@@ -25,19 +19,16 @@ from .values import Values
 ERROR = 3
 # Headers that clang has of its own.
 OF_CLANG = ('stddef.h', 'stdarg.h', 'float.h', 'limits.h', 'stdint.h')
-# The modules that facts depend on.
-READERS = ('apart', 'bodies', 'calls', 'classes', 'comparing', 'conditional', 'connects', 'context', 'facts', 'holders', 'keeping', 'libclang', 'libraries', 'model', 'naming_callees',
-           'parting', 'possessing', 'precompiled', 'qtmodel', 'quick', 'special', 'templates', 'units', 'values')
 
 
-def read_unit(unit: Unit, roots: list[str], known: dict[str, Class], headers: Headers | None = None) -> Facts:
-    """Reads one unit. `known` has the classes of libraries that earlier units have told, `headers` those of Qt that are parsed already:
+def read_unit(unit: Unit, roots: list[str], known: dict[str, Class], headers: str | None = None) -> Facts:
+    """Reads one unit. `known` has the classes of libraries that earlier units have told, `headers` the file of those that are parsed already:
     a unit that doesn't go with them is read without."""
     facts = _read(unit, roots, known, headers)
     return _read(unit, roots, known, None) if facts.errors and headers is not None else facts
 
 
-def _read(unit: Unit, roots: list[str], known: dict[str, Class], headers: Headers | None) -> Facts:
+def _read(unit: Unit, roots: list[str], known: dict[str, Class], headers: str | None) -> Facts:
     """Reads a unit with the instances of templates, where its text has a template. Where clang's tree has one that the text doesn't show,
     as by a macro, the unit is read again."""
     begun = time.process_time()
@@ -49,12 +40,12 @@ def _read(unit: Unit, roots: list[str], known: dict[str, Class], headers: Header
     return facts
 
 
-def _read_once(unit: Unit, roots: list[str], known: dict[str, Class], headers: Headers | None, is_whole: bool) -> tuple[Facts, bool]:
+def _read_once(unit: Unit, roots: list[str], known: dict[str, Class], headers: str | None, is_whole: bool) -> tuple[Facts, bool]:
     """The facts of a unit, and whether it has templates of the application: their instances are there only where it is parsed whole."""
     context = Context(unit.source, roots)
     facts = context.facts
     quick.forget()
-    shared = ['-include-pch', headers.path] if headers is not None else []
+    shared = ['-include-pch', headers] if headers is not None else []
     try:
         tree = cindex.Index.create(excludeDecls=True).parse(unit.source, args=[*unit.flags, *ANNOTATIONS, *shared],
                                                             options=0 if is_whole else cindex.TranslationUnit.PARSE_INCOMPLETE)
@@ -63,7 +54,7 @@ def _read_once(unit: Unit, roots: list[str], known: dict[str, Class], headers: H
         return facts, False
     included = {real(i.include.name) for i in tree.get_includes()}
     facts.errors = errors_of(tree, context)
-    facts.files = sorted(included | {unit.source} | set(headers.files if headers is not None else ()))
+    facts.files, facts.is_sharing = sorted(included | {unit.source}), headers is not None
     context.classes, context.values, context.callees = Classes(context, known), Values(context), Callees(context)
     context.calls, context.connects = Calls(context), Connects(context)
     context.bodies = Bodies(context)
@@ -97,62 +88,3 @@ def errors_of(tree: object, context: Context) -> list[str]:
                 what += ': install Debian\'s package libclang-common-14-dev, or that of your version'
         told.append(f'{name}:{found.location.line}:{found.location.column}: {what}')
     return list(dict.fromkeys(told))
-
-
-class Cache:
-    """Facts that were read before, each valid while none of its files has changed."""
-
-    def __init__(self, folder: str) -> None:
-        self.folder = folder
-        here = os.path.dirname(os.path.abspath(model.__file__))
-        whole = hashlib.sha256()
-        for name in READERS:
-            with open(os.path.join(here, name + '.py'), 'rb') as file:
-                whole.update(file.read())
-        whole.update(version().encode())
-        self.reader = whole.hexdigest()
-        self._sums: dict[str, str] = {}
-        self._outside: dict[str, str] = {}
-        os.makedirs(folder, exist_ok=True)
-
-    def path(self, unit: Unit, roots: list[str]) -> str:
-        words = '\0'.join((self.reader, unit.source, *unit.flags, '', *roots))
-        return os.path.join(self.folder, hashlib.sha256(words.encode()).hexdigest())
-
-    def sum_of(self, path: str) -> str:
-        if path not in self._sums:
-            try:
-                with open(path, 'rb') as file:
-                    self._sums[path] = hashlib.sha256(file.read()).hexdigest()
-            except OSError:
-                self._sums[path] = ''
-        return self._sums[path]
-
-    def stamp(self, path: str, roots: list[str]) -> str:
-        """What a file is known by: its sum in the application, its size and time elsewhere."""
-        if any(path.startswith(root) for root in roots):
-            return self.sum_of(path)
-        if path not in self._outside:
-            size, time_of = stamp(path)
-            self._outside[path] = f'{size} {time_of}'
-        return self._outside[path]
-
-    def load(self, unit: Unit, roots: list[str]) -> Facts | None:
-        try:
-            with open(self.path(unit, roots), 'rb') as file:
-                stamps, facts = pickle.load(file)
-        except (OSError, EOFError, pickle.UnpicklingError, AttributeError, ValueError, ImportError):
-            return None
-        if any(self.stamp(path, roots) != stamp for path, stamp in stamps):
-            return None
-        assert isinstance(facts, Facts)
-        mark_used(self.path(unit, roots))
-        return facts
-
-    def keep(self, unit: Unit, roots: list[str], facts: Facts) -> None:
-        path = self.path(unit, roots)
-        stamps = [(file, self.stamp(file, roots)) for file in facts.files]
-        beside = f'{path}.{os.getpid()}'
-        with open(beside, 'wb') as file:
-            pickle.dump((stamps, facts), file, protocol=5)
-        os.replace(beside, path)

@@ -12,25 +12,28 @@ from typing import Iterator
 
 from .cleaning import clean
 from .errors import ReadError
-from .facts import Cache, read_unit
+from .facts import read_unit
 from .model import Class, Facts
 from .libraries import kinds_of
+from .packing import Packed, Unpacking, pack
 from .precompiled import LEAST, Headers, Kind, kept, parse
+from .store import Cache
 from .units import Unit
 
 # The classes of libraries that this process has read: the next unit needn't read them again.
 _known: dict[str, Class] = {}
 
 
-def _read(unit: Unit, roots: list[str], headers: Headers | None) -> Facts:
+def _read(unit: Unit, roots: list[str], headers: str | None) -> Packed:
     """The facts of a unit. Where the reader itself breaks down over it, that is an error of the unit, and not of all."""
     sys.setrecursionlimit(20000)
     try:
-        return read_unit(unit, roots, _known, headers)
+        return pack(read_unit(unit, roots, _known, headers))
     except Exception as wrong:  # whatever libclang's module may raise
         if os.environ.get('GAMMONFIG_TRACE'):
             raise
-        return Facts(unit.source, errors=[f'{unit.source}: the reader broke down over this file: {type(wrong).__name__}: {wrong}'])
+        broken = f'{unit.source}: the reader broke down over this file: {type(wrong).__name__}: {wrong}'
+        return pack(Facts(unit.source, errors=[broken]))
 
 
 class Bar:
@@ -56,10 +59,10 @@ class Bar:
 
 def gather(units: list[Unit], roots: list[str], cache: Cache | None, jobs: int, quiet: bool) -> list[Facts]:
     """The facts of each unit, in the order of the units."""
-    found: dict[Unit, Facts] = {}
+    found, unpacking = dict[Unit, Facts](), Unpacking()
     if cache is not None:
         for unit in units:
-            kept = cache.load(unit, roots)
+            kept = cache.load(unit, roots, unpacking)
             if kept is not None:
                 found[unit] = kept
     missing = [unit for unit in units if unit not in found]
@@ -67,10 +70,11 @@ def gather(units: list[Unit], roots: list[str], cache: Cache | None, jobs: int, 
     with tempfile.TemporaryDirectory(prefix='gammonfig-headers') as own:
         kinds = kinds_of(units, roots) if missing else {}
         headers = _headers_for({unit: kinds[unit] for unit in missing}, cache.folder if cache is not None else own, jobs)
-        for unit, facts in _read_all(missing, roots, jobs, headers):
-            found[unit] = facts
-            if cache is not None and not facts.errors:
-                cache.keep(unit, roots, facts)
+        for unit, packed in _read_all(missing, roots, jobs, headers):
+            found[unit] = unpacking.facts(packed.words)
+            shared = headers[unit]
+            if cache is not None and packed.is_well:
+                cache.keep(unit, roots, packed, shared.files if packed.is_sharing and shared is not None else ())
             bar.step(unit.source)
     if cache is not None:
         clean(cache.folder)
@@ -100,13 +104,14 @@ def _parse_all(kinds: list[Kind], folder: str, jobs: int) -> None:
             pass
 
 
-def _read_all(units: list[Unit], roots: list[str], jobs: int, headers: dict[Unit, Headers | None]) -> Iterator[tuple[Unit, Facts]]:
+def _read_all(units: list[Unit], roots: list[str], jobs: int, headers: dict[Unit, Headers | None]) -> Iterator[tuple[Unit, Packed]]:
     """The units with their facts, as they are done."""
+    paths = {unit: shared.path if shared is not None else None for unit, shared in headers.items()}
     if len(units) <= 1 or jobs <= 1:
-        yield from ((unit, _read(unit, roots, headers[unit])) for unit in units)
+        yield from ((unit, _read(unit, roots, paths[unit])) for unit in units)
         return
     with ProcessPoolExecutor(min(jobs, len(units))) as pool:
-        waiting = {pool.submit(_read, unit, roots, headers[unit]): unit for unit in units}
+        waiting = {pool.submit(_read, unit, roots, paths[unit]): unit for unit in units}
         for done in as_completed(waiting):
             try:
                 yield waiting[done], done.result()

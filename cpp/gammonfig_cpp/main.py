@@ -8,7 +8,6 @@ import time
 
 from .errors import ReadError
 from .explaining import Explaining
-from .facts import Cache
 from .gather import gather
 from .limits import STANDARD, WIDE
 from .linking import Linked, link
@@ -18,6 +17,7 @@ from .places import Places
 from .qtmodel import Table
 from .report import Teller, judge
 from .slicing import keep_slice
+from .store import Cache
 from .units import units_of
 from .warned import Warnings
 from .watching import Watching

@@ -1,19 +1,20 @@
-"""What is read of C++, as plain data: nothing here is decided, and nothing of libclang is kept."""
+"""What is read of C++, as plain data: nothing here is decided, and nothing of libclang is kept.
+
+What never changes is a named tuple: those are compared and loaded without a call of Python's for each field."""
 from __future__ import annotations
 
 from dataclasses import dataclass, field
+from typing import NamedTuple
 
 
-@dataclass(frozen=True, slots=True)
-class Place:
+class Place(NamedTuple):
     file: str
     line: int
     column: int
     words: str = ''
 
 
-@dataclass(frozen=True, slots=True)
-class Value:
+class Value(NamedTuple):
     """Which objects an expression may be.
 
     `this`, `class` (any object of `cls`; an item of the list parts[0], if there is one), `variable` and `result` (what the variable or
@@ -36,27 +37,24 @@ NULL = Value('null')
 SHARED_LATER, SHARED_ONCE = 'D:later', 'D:once'
 
 
-@dataclass(frozen=True, slots=True)
-class Term:
+class Term(NamedTuple):
     """A value that is handed on: a parameter of the function, unchanged, a number, a text; or `unknown`."""
     kind: str
-    index: int = 0
+    index: int = 0  # type: ignore[assignment] # it hides tuple's own function
     text: str = ''
 
 
 UNKNOWN = Term('unknown')
 
 
-@dataclass(frozen=True, slots=True)
-class Parameter:
+class Parameter(NamedTuple):
     """`sort` is `int` or `QString`; `type` is the canonical type without const and reference."""
     name: str
     sort: str
     type: str
 
 
-@dataclass(frozen=True, slots=True)
-class Condition:
+class Condition(NamedTuple):
     """`how` is `if`, `unless`, `blocked by`, `disconnected by`, `in` (a loop) or `case` (labels in a switch over `of`)."""
     how: str
     words: str
@@ -73,8 +71,7 @@ def exclude(one: tuple[Condition, ...], other: tuple[Condition, ...]) -> bool:
     return any({taken.get((c.words, c.line)), c.how} == {'if', 'unless'} for c in other)
 
 
-@dataclass(frozen=True, slots=True)
-class Named:
+class Named(NamedTuple):
     """What an argument of `connect` names: `text`, `name` (of a signal), `method`, `static`, `free`, `lambda`, `bound` (a method
     of `on`), `parameter` (of the function that forwards it) or `unknown`."""
     kind: str
@@ -153,8 +150,7 @@ class Class:
     properties: list[str] = field(default_factory=list)
 
 
-@dataclass(frozen=True, slots=True)
-class Site:
+class Site(NamedTuple):
     """A place where an object is made: `hint` names the variable that it goes to, `within` the class or function around it."""
     cls: str
     place: Place
@@ -178,8 +174,7 @@ class Connect:
     is_same: bool = False
 
 
-@dataclass(frozen=True, slots=True)
-class Handed:
+class Handed(NamedTuple):
     """Objects that a function of Qt is handed, by the number of the argument; 0 is what it returns."""
     cls: str
     name: str
@@ -188,16 +183,14 @@ class Handed:
     place: Place
 
 
-@dataclass(frozen=True, slots=True)
-class Construct:
+class Construct(NamedTuple):
     """A constructor of the application that runs on an object, with the objects among its arguments; without a name the one that fits."""
     constructor: str
     on: Value
     given: tuple[Value, ...]
 
 
-@dataclass(frozen=True, slots=True)
-class Forward:
+class Forward(NamedTuple):
     """A call that hands functions over: what it hands to each parameter, as objects and as what is named."""
     function: str
     place: Place
@@ -206,8 +199,7 @@ class Forward:
     named: tuple[Named | None, ...]
 
 
-@dataclass(frozen=True, slots=True)
-class Unknown:
+class Unknown(NamedTuple):
     """What wasn't understood: its kind, its words, and the function that has it."""
     kind: str
     what: str
@@ -215,8 +207,7 @@ class Unknown:
     function: str
 
 
-@dataclass(frozen=True, slots=True)
-class Field:
+class Field(NamedTuple):
     """A bindable property: QProperty, Q_OBJECT_BINDABLE_PROPERTY and such; or a member that a setter compares."""
     name: str
     cls: str
@@ -249,6 +240,8 @@ class Facts:
     unknown: list[Unknown] = field(default_factory=list)
     errors: list[str] = field(default_factory=list)
     files: list[str] = field(default_factory=list)
+    # Whether it was read with headers that it shares with others: their files are none of its own.
+    is_sharing: bool = False
     named_slots: bool = False
     disconnects: int = 0
     seconds: float = 0.0

@@ -1,7 +1,7 @@
 """`setParent`: the owner that the same function has named before owns the object no more."""
 from __future__ import annotations
 
-from dataclasses import dataclass, replace
+from dataclasses import dataclass
 
 from .context import Context
 from .libclang import Cursor
@@ -80,7 +80,7 @@ class Parting:
             facts.owns = [known for known in facts.owns if known is not fact]
             return
         left = () if identity(fact.on) == child else tuple(one for one in fact.given if identity(one[1]) != child)
-        facts.handed = [known if known != fact else replace(fact, given=left) for known in facts.handed]
+        facts.handed = [known if known != fact else fact._replace(given=left) for known in facts.handed]
 
 
 def identity(value: Value) -> tuple[str, str] | None:

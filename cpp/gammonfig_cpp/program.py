@@ -2,7 +2,7 @@
 from __future__ import annotations
 
 from collections import Counter, defaultdict
-from dataclasses import dataclass, field, replace
+from dataclasses import dataclass, field
 
 from .model import Condition, Function, Parameter, Place, Term
 from .objects import FREE, Element, Objects
@@ -231,7 +231,7 @@ class Program:
             terms = tuple(Term('parameter', at) if at < len(parameters) and same_type(p, parameters[at]) else Term('unknown')
                           for at, p in enumerate(member.parameters))
             step = Step('emit' if member.kind == 'signal' else 'call', target, None, terms, member.place)
-            given = [replace(p, name=p.name or f'a{at}') for at, p in enumerate(parameters)]
+            given = [p._replace(name=p.name or f'a{at}') for at, p in enumerate(parameters)]
             self.add(Member(key, member.owner, f'{member.name}_with', 'slot', member.shown, member.place, given, [step], library=True))
         return key
 

@@ -71,7 +71,7 @@ def test_a_unit_says_the_same(tmp_path: pathlib.Path) -> None:
     units = project(tmp_path, LEAST)
     headers = parsed(kinds_of(units, roots)[units[-1]], str(tmp_path))
     assert any(name.endswith('lib/lib.hpp') for name in headers.files) and any(name.endswith('/qobject.h') for name in headers.files)
-    one, other = read_unit(units[-1], roots, {}, headers), read_unit(units[-1], roots, {})
+    one, other = read_unit(units[-1], roots, {}, headers.path), read_unit(units[-1], roots, {})
     assert not one.errors and one.functions == other.functions
 
 
