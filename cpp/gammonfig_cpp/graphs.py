@@ -8,6 +8,11 @@ N = TypeVar('N', bound=Hashable)
 
 def components(graph: Mapping[N, Iterable[N]]) -> list[set[N]]:
     """The sets of nodes that all lead to one another: of two or more, or of one that leads to itself."""
+    return [found for found in parts(graph) if len(found) > 1 or any(node in list(graph[node]) for node in found)]
+
+
+def parts(graph: Mapping[N, Iterable[N]]) -> list[set[N]]:
+    """The nodes, those together that lead to one another: each set after all that it leads to."""
     walk: _Walk[N] = _Walk(graph)
     for root in graph:
         if root not in walk.index:
@@ -58,5 +63,4 @@ class _Walk(Generic[N]):
             found.add(at)
             if at == node:
                 break
-        if len(found) > 1 or node in list(self.graph[node]):
-            self.found.append(found)
+        self.found.append(found)

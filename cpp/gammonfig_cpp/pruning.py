@@ -3,6 +3,7 @@ from __future__ import annotations
 
 from collections import defaultdict
 
+from .graphs import parts
 from .objects import FREE, Element
 from .program import WAYS, Key, Member, Program, Step, Wire
 from .relations import Related
@@ -29,15 +30,22 @@ class Pruning:
 
     def closure(self, element: Element) -> set[Element]:
         """The elements that may die with one."""
-        known = self._closures.get(element)
-        if known is None:
-            known, todo = {element}, [element]
-            while todo:
-                new = self._children(todo.pop()) - known
-                known |= new
-                todo += new
-            self._closures[element] = known
-        return known
+        if element not in self._closures:
+            self._close(element)
+        return self._closures[element]
+
+    def _close(self, element: Element) -> None:
+        """Finds the closures of an element and of all below it: those that own one another have one set together."""
+        graph, todo = dict[Element, set[Element]](), [element]
+        while todo:
+            at = todo.pop()
+            if at not in graph and at not in self._closures:
+                graph[at] = self._children(at)
+                todo += graph[at]
+        for part in parts(graph):
+            below = {to for node in part for to in graph[node]} - part
+            whole = part.union(*{id(known): known for known in (self._closures[to] for to in below)}.values())
+            self._closures.update(dict.fromkeys(part, whole))
 
     def _children(self, element: Element) -> set[Element]:
         if element == FREE:

@@ -6,11 +6,16 @@ import os
 import pstats
 import sys
 import time
+from collections import Counter
+
+import pytest
 
 from reading import CASES, HERE
 from gammonfig_cpp.graph import Graph
 from gammonfig_cpp.linking import Linked, link
 from gammonfig_cpp.model import Facts
+from gammonfig_cpp.objects import Element
+from gammonfig_cpp.pruning import Pruning
 from gammonfig_cpp.qtmodel import Table
 from gammonfig_cpp.slicing import keep_slice
 from gammonfig_cpp.watching import Watching
@@ -66,3 +71,12 @@ def test_each_part_is_as_the_first() -> None:
     assert sum('B000' in n for n in names) == sum('B001' in n for n in names) > 10
     keep_slice(told.program)
     assert Graph(told.program, Writing(told.program, CASES).names).edges
+
+
+def test_what_an_element_owns_is_asked_once(monkeypatch: pytest.MonkeyPatch) -> None:
+    """However many others may lead to its death."""
+    asked: Counter[Element] = Counter()
+    children = Pruning._children
+    monkeypatch.setattr(Pruning, '_children', lambda self, element: (asked.update([element]), children(self, element))[1])
+    link(multiplied(*read(), 4), TABLE, 'member', True)
+    assert len(asked) > 10 and set(asked.values()) == {1}
