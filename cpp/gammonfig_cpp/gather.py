@@ -69,7 +69,7 @@ def gather(units: list[Unit], roots: list[str], cache: Cache | None, jobs: int, 
     bar = Bar(len(missing), quiet)
     with tempfile.TemporaryDirectory(prefix='gammonfig-headers') as own:
         kinds = kinds_of(units, roots) if missing else {}
-        headers = _headers_for({unit: kinds[unit] for unit in missing}, cache.folder if cache is not None else own, jobs)
+        headers = headers_for({unit: kinds[unit] for unit in missing}, cache.folder if cache is not None else own, jobs)
         for unit, packed in _read_all(missing, roots, jobs, headers):
             found[unit] = unpacking.facts(packed.words)
             shared = headers[unit]
@@ -81,15 +81,18 @@ def gather(units: list[Unit], roots: list[str], cache: Cache | None, jobs: int, 
     return [found[unit] for unit in units]
 
 
-def _headers_for(kinds: dict[Unit, Kind | None], folder: str, jobs: int) -> dict[Unit, Headers | None]:
-    """The headers that units share: those that are kept, and where enough units are to be read new ones."""
+def headers_for(kinds: dict[Unit, Kind | None], folder: str, jobs: int) -> dict[Unit, Headers | None]:
+    """The headers that units share: those that are kept, and where enough units are to be read new ones. Where too few units share those
+    of libraries, they share Qt's."""
     counts = Counter(kind for kind in kinds.values() if kind is not None)
     found = {kind: kept(kind, folder) for kind in counts}
-    wanted = [kind for kind, count in counts.items() if found[kind] is None and count >= LEAST]
-    below = dict.fromkeys(kind.base() or kind for kind in wanted)
-    _parse_all([kind for kind in below if kept(kind, folder) is None], folder, jobs)
-    _parse_all([kind for kind in wanted if kind.base() is not None], folder, jobs)
-    found |= {kind: kept(kind, folder) for kind in wanted}
+    missing = {kind: count for kind, count in counts.items() if found[kind] is None}
+    on_base: Counter[Kind] = Counter()
+    for kind, count in missing.items():
+        on_base[kind.base() or kind] += count
+    _parse_all([kind for kind, count in on_base.items() if count >= LEAST and kept(kind, folder) is None], folder, jobs)
+    _parse_all([kind for kind, count in missing.items() if count >= LEAST and kind.base() is not None], folder, jobs)
+    found |= {kind: kept(kind, folder) or kept(kind.base() or kind, folder) for kind in missing}
     return {unit: found[kind] if kind is not None else None for unit, kind in kinds.items()}
 
 

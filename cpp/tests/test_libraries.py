@@ -4,6 +4,7 @@ import pathlib
 
 from reading import flags
 from gammonfig_cpp.facts import read_unit
+from gammonfig_cpp.gather import headers_for
 from gammonfig_cpp.libraries import OFTEN, kinds_of
 from gammonfig_cpp.precompiled import LEAST, Headers, Kind, Library, kept, parse
 from gammonfig_cpp.units import Unit
@@ -98,3 +99,10 @@ def test_headers_below_that_have_changed(tmp_path: pathlib.Path) -> None:
     os.remove(tmp_path / (base.name() + '.pch'))
     os.remove(tmp_path / (base.name() + '.files'))
     assert not parse(kind, str(tmp_path)), 'there is nothing to stand on'
+
+
+def test_few_units_with_libraries_share_those_of_qt(tmp_path: pathlib.Path) -> None:
+    kinds = kinds_of(project(tmp_path, LEAST - 1), [str(tmp_path / 'app')])
+    assert {len(kind.libraries) for kind in kinds.values() if kind is not None} == {0, 1}
+    shared = set(headers_for(kinds, str(tmp_path), 1).values())
+    assert [headers is not None and not any(name.endswith('lib.hpp') for name in headers.files) for headers in shared] == [True]
