@@ -8,7 +8,7 @@ import time
 from collections import Counter
 from concurrent.futures import ProcessPoolExecutor, as_completed
 from concurrent.futures.process import BrokenProcessPool
-from typing import Iterator
+from typing import Iterable, Iterator
 
 from .cleaning import clean
 from .errors import ReadError
@@ -20,7 +20,7 @@ from .precompiled import LEAST, Headers, Kind, kept, parse
 from .store import Cache
 from .units import Unit
 
-# The classes of libraries that this process has read: the next unit needn't read them again.
+# The classes of libraries that this process has read or loaded: the next unit needn't read them again.
 _known: dict[str, Class] = {}
 
 
@@ -66,6 +66,8 @@ def gather(units: list[Unit], roots: list[str], cache: Cache | None, jobs: int, 
             if kept is not None:
                 found[unit] = kept
     missing = [unit for unit in units if unit not in found]
+    if missing:
+        _remember(found.values())
     bar = Bar(len(missing), quiet)
     with tempfile.TemporaryDirectory(prefix='gammonfig-headers') as own:
         kinds = kinds_of(units, roots) if missing else {}
@@ -79,6 +81,12 @@ def gather(units: list[Unit], roots: list[str], cache: Cache | None, jobs: int, 
     if cache is not None:
         clean(cache.folder)
     return [found[unit] for unit in units]
+
+
+def _remember(told: Iterable[Facts]) -> None:
+    """The classes of libraries in facts that are kept needn't be read again either, here and in processes that begin from now on."""
+    for facts in told:
+        _known.update((key, cls) for key, cls in facts.classes.items() if not cls.inside and cls.defined)
 
 
 def headers_for(kinds: dict[Unit, Kind | None], folder: str, jobs: int) -> dict[Unit, Headers | None]:

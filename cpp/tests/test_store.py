@@ -2,13 +2,25 @@
 import os
 import pathlib
 
-from reading import facts
-from gammonfig_cpp.model import Facts
+import pytest
+
+from reading import facts, flags
+from gammonfig_cpp import gather as gathering
+from gammonfig_cpp.classes import Classes
+from gammonfig_cpp.libclang import Cursor
+from gammonfig_cpp.model import Class, Facts
 from gammonfig_cpp.packing import Unpacking, pack
 from gammonfig_cpp.store import Cache
 from gammonfig_cpp.units import Unit
 
 NAMES = ('bodies', 'deletions', 'roles')
+SOURCE = '''#include <QTimer>
+class {name} : public QTimer {{
+    Q_OBJECT
+public:
+    void f() {{ start(); }}
+}};
+'''
 
 
 def kept(folder: pathlib.Path) -> tuple[Cache, list[Unit], list[str]]:
@@ -63,3 +75,27 @@ def test_what_is_broken_is_read_anew(tmp_path: pathlib.Path) -> None:
     cache, units, roots = kept(tmp_path)
     os.truncate(cache.path(units[0], roots), 200)
     assert [found is None for found in loaded(tmp_path, units, Unpacking())] == [True, False, False]
+
+
+def test_classes_of_kept_facts_are_not_read_again(tmp_path: pathlib.Path, monkeypatch: pytest.MonkeyPatch) -> None:
+    """One file has changed: of Qt's classes, which the other units have told, libclang isn't asked."""
+    asked: list[str] = []
+    method = Classes._method
+
+    def noted(self: Classes, cls: Class, inner: Cursor) -> None:
+        asked.append(cls.name)
+        method(self, cls, inner)
+
+    monkeypatch.setattr(Classes, '_method', noted)
+    monkeypatch.setattr(gathering, '_known', {})
+    units, roots = [Unit(str(tmp_path / f'{name}.cpp'), flags('Qt6Core')) for name in 'ab'], [str(tmp_path)]
+    for unit, name in zip(units, 'AB'):
+        pathlib.Path(unit.source).write_text(SOURCE.format(name=name))
+    first = gathering.gather(units, roots, Cache(str(tmp_path / 'cache')), 1, True)
+    assert {'QTimer', 'QObject', 'A', 'B'} <= set(asked)
+    asked.clear()
+    gathering._known.clear()
+    pathlib.Path(units[1].source).write_text(SOURCE.format(name='B') + '// another\n')
+    again = gathering.gather(units, roots, Cache(str(tmp_path / 'cache')), 1, True)
+    assert set(asked) == {'B'}
+    assert again[1].classes == first[1].classes and again[1].functions == first[1].functions
