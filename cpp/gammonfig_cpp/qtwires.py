@@ -43,9 +43,9 @@ class QtWires:
                         yield one, other
 
     def _in_view(self, name: str, view: Element) -> list[Element]:
-        if name in (VIEW, EDITOR):
+        if name == EDITOR or self._is_named(view, name):
             return [view]
-        if not self.calling.items.may_reach(view, name):
+        if any(self.whole.is_named(key, VIEW) for key in self.whole.by_name.get(name, ())) or not self.calling.items.may_reach(view, name):
             return []
         if name == MODEL:
             return sorted(self.objects.selections.models(view))

@@ -3,7 +3,7 @@ from reading import case
 
 
 def test_a_selection_follows_the_model_of_its_own_view() -> None:
-    told = [w.split(' -> ') for w in case('selections').wires() if 'Qt connects' in w]
+    told = [w.split(' -> ') for w in case('selections').wires() if 'Qt connects' in w and w.startswith('wire QStandardItemModel')]
     pairs = {sender.split()[1].removeprefix('QStandardItemModel_'): receiver.split()[0].removeprefix('QItemSelectionModel_')
              for sender, receiver in told}
     assert pairs == {'m_tasks': 'm_left_selection', 'm_feeds': 'm_right_selection', 'm_notes': 'Tree_selection'}
@@ -20,3 +20,11 @@ def test_a_view_moves_its_own_selection_and_one_that_is_not_known_any() -> None:
     found = case('selections')
     assert found.body('setCurrentIndex_2') == ['call this.to_QItemSelectionModel_m_left_selection.emit_selectionChanged("", "");']
     assert found.body('setCurrentIndex', 'QAbstractItemView') == ['call this.to_QItemSelectionModel.emit_selectionChanged("", "");']
+
+
+def test_a_selection_is_told_by_its_own_table() -> None:
+    found = case('selections')
+    assert found.body('forget') == ['call this.to_QItemSelectionModel_m_chosen_selection.clear();']
+    told = [wire.split('  //')[0] for wire in found.wires() if '-> QTableWidget' in wire]
+    assert told == [f'wire QItemSelectionModel_{it}_selection selectionChanged(QString, QString) -> QTableWidget_{it} itemSelectionChanged() direct;'
+                    for it in ('m_chosen', 'm_other')], 'and by no other'

@@ -10,6 +10,22 @@ signals:
     void told();
 };
 
+class Cells : public QWidget {
+    Q_OBJECT
+public:
+    Cells() {
+        connect(m_chosen, &QTableWidget::itemSelectionChanged, this, &Cells::choose);
+        connect(m_other, &QTableWidget::itemSelectionChanged, this, &Cells::choose);
+    }
+    void forget() { m_chosen->selectionModel()->clear(); }
+    void choose() { emit chosen(); }
+signals:
+    void chosen();
+private:
+    QTableWidget *m_chosen = new QTableWidget(this);
+    QTableWidget *m_other = new QTableWidget(this);
+};
+
 class Panes : public QWidget {
     Q_OBJECT
 public:

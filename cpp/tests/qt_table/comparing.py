@@ -129,6 +129,8 @@ def reaches(wire: QtWire, fact: Fact, table: Table) -> bool:
     """Whether a connection leads to what came; that to a function, to what the function's line says."""
     if wire.to != EDITOR:
         line = table.lines.get((wire.to, wire.name))
+        if line is not None and fact.name in line.names("calls", "emits", "rarely") and "::" in fact.name:
+            return True
         return wire.to in fact.classes and (wire.name == fact.signal or line is not None and fact.signal in line.names("emits", "rarely"))
     line = table.line(fact.classes, wire.name)
     return fact.name == f"{EDITOR}::{wire.name}" or (line is not None and fact.signal in line.names("emits", "rarely"))

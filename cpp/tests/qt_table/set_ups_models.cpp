@@ -204,14 +204,35 @@ public:
     }
 };
 
+// The item of a header, which is never the object itself.
+class HeaderItem : public QTreeWidgetItem
+{
+public:
+    void setData(int column, int role, const QVariant &value) override
+    {
+        recorder::calledOf("QTreeWidgetItem", "setData");
+        QTreeWidgetItem::setData(column, role, value);
+    }
+};
+
+// The object itself.
 class SetStandardItem : public QStandardItem
 {
 public:
-    using QStandardItem::QStandardItem;
-    QStandardItem *clone() const override { recorder::calledOf("QStandardItem", "clone"); return new SetStandardItem; }
     void setData(const QVariant &value, int role) override
     {
         recorder::called("setData");
+        QStandardItem::setData(value, role);
+    }
+};
+
+// What a model clones.
+class ClonedItem : public QStandardItem
+{
+public:
+    QStandardItem *clone() const override { recorder::calledOf("QStandardItem", "clone"); return new ClonedItem; }
+    void setData(const QVariant &value, int role) override
+    {
         recorder::calledOf("QStandardItem", "setData");
         QStandardItem::setData(value, role);
     }
@@ -239,7 +260,7 @@ QTableWidget *cloning()
 QStandardItemModel *cloningModel()
 {
     auto *it = new QStandardItemModel(2, 2);
-    it->setItemPrototype(new SetStandardItem);
+    it->setItemPrototype(new ClonedItem);
     return it;
 }
 
@@ -295,7 +316,7 @@ void setUpItems()
     SET_UP(QTreeWidgetItem, "that tells", auto *it = s.other(tree(s)); auto *item = new SetTreeItem(it);
            item->setFlags(item->flags() | Qt::ItemIsAutoTristate); (new SetTreeItem(item))->setCheckState(0, Qt::Unchecked);
            return static_cast<QTreeWidgetItem *>(item);)
-    SET_UP(QTreeWidget, "whose header tells", auto *it = tree(s); it->setHeaderItem(new SetTreeItem); return it;)
+    SET_UP(QTreeWidget, "whose header tells", auto *it = tree(s); it->setHeaderItem(new HeaderItem); return it;)
     SET_UP(QTableWidget, "that clones", return cloning();)
     SET_UP(QStandardItemModel, "that clones", return cloningModel();)
     SET_UP(QStandardItem, "that tells", auto *it = s.filledModel(); auto *item = new SetStandardItem; it->appendRow(item);
