@@ -77,13 +77,15 @@ def trivial(words, program):
     return TRIVIAL_PROGRAM + b"%%\nnew a A\n"
 
 
-def needed(row, unit, program, library, room):
-    """What the program needs for a row: instructions and stores for each unit, and KB of the heap."""
+def needed(row, unit, heap_part, program, library, room):
+    """What the program needs for a row: instructions and stores for each unit, and KB of the heap, on the input that the target is
+    for: the whole one, or half of it."""
     words, text = measure.words(row), input_of(row, 1, program, room)
     least = trivial(words, program)
     count, stores, lines = instructions_and_stores(program, words, text)
     few, few_stores, few_lines = instructions_and_stores(program, words, least)
     units = lines - few_lines if unit == "line" else len(text) - len(least)
+    text = input_of(row, heap_part, program, room)
     return (count - few) / units, (stores - few_stores) / units, heap(library, program, words, text, room) / 1024
 
 
@@ -92,7 +94,7 @@ def compare(program, rows, room):
     library, over = f"{room}/peak.so", 0
     subprocess.run([os.environ.get("CC") or "cc", "-O1", "-shared", "-fPIC", "-o", library, f"{measure.ROOT}/bench/peak.c"], check=True)
     for row in rows:
-        found = needed(row["row"], row["unit"], program, library, room)
+        found = needed(row["row"], row["unit"], int(row["heap_part"]), program, library, room)
         line = f"{row['row']:22} {row['unit']:4}"
         for name, ours in zip(COUNTED, found):
             target = int(row[name])
