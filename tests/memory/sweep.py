@@ -10,10 +10,11 @@ Never a crash, a hang, another status, a refusal that the ample run doesn't have
 thing, or a part of what is told beside a yes: all of that or nothing. Past the last request the output is the ample one, which is what the example's or case's file has.
 
 What is told on standard error comes behind all output, and asks for memory too: of the requests behind the last one that
-matters to the output each sixteenth is refused. Of those up to it, of the examples and of the first cases of each topic of
-`runs` and `commands`, each is refused, up to 700 of a run, and of the others 200 that are spread over them. Of each other run
-of the case files, and of each run by a second build, which asks for the same, 15 are refused and, where it runs a script, each
-from there down to the first that is made outside the machine.
+matters to the output each sixteenth is refused, or 512 of a run's where these are fewer. Of those up to it, of the examples
+and of the first cases of each topic of `runs` and `commands`, each is refused, up to 700 of a run, and of the others 200 that
+are spread over them. Of each other run of the case files, and of each run by a second build, which asks for the same, 15 are
+refused and, where it runs a script, each from there down to the first that is made outside the machine; not with `--wide`,
+since such programs may be large.
 
 Then each call that can want memory is made by itself (`calls.py`), by the program `memory_runs`.
 
@@ -37,8 +38,9 @@ EVERY, SPREAD = 700, 200
 # How many of a topic's cases are as examples: its first ones, which are the plain ones.
 WHOLE_CASES = {"runs": 4, "commands": 2}
 OF_CASE, MOST_OF_CASE = 15, 200
-# Of the requests at the end without which the output is the ample one, one of so many is refused.
-STRIDE = 16
+# Of the requests at the end without which the output is the ample one, one of so many is refused, or so many of a run's where
+# these are fewer: a run of a large text takes a tenth of a second, and asks 80,000 times.
+STRIDE, STRIDES = 16, 512
 # The answers that are wanted.
 AMPLE, FAULT, LINES, MEMORY = "the ample output", "whole rules, then `fault 65`", "whole lines, then `memory`", "`memory`"
 
@@ -93,15 +95,16 @@ class Refusals:
         last = self.last_that_matters(count)
         for number in self.numbers(last):
             self.one(number, count)
-        if self.fronts and not self.row.is_whole:
+        if self.fronts and not self.row.is_whole and self.row.words[:1] == ["run"]:
             self.in_machine(last, count)
 
     def last_that_matters(self, count):
-        """The number of the last request without which the output is another one, or of one up to STRIDE behind it; those
-        behind it are refused in strides."""
-        for number in range(self.requests, 0, -STRIDE):
+        """The number of the last request without which the output is another one, or of one less than a stride behind it;
+        those behind it are refused in strides."""
+        stride = max(STRIDE, self.requests // STRIDES)
+        for number in range(self.requests, 0, -stride):
             if self.one(number, count) != AMPLE:
-                return min(self.requests, number + STRIDE - 1)
+                return min(self.requests, number + stride - 1)
         return 0
 
     def numbers(self, last):
@@ -189,7 +192,7 @@ def rows(program):
     bench = built.Bench()
     yield from example_rows()
     runs = case_files.runs(lambda words, text: bench.run(program, words, text).output)
-    for run in sorted(runs, key=lambda run: case_files.narrow(run.words)[:1] != ["run"]):
+    for run in sorted(runs, key=lambda run: run.words[:1] != ["run"]):
         is_whole = run.place < WHOLE_CASES.get(run.topic.split("/")[0], 0)
         yield Row(run.name, run.words, run.text, run.output, run.status, is_whole, run.environment)
 
