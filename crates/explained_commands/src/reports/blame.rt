@@ -30,6 +30,11 @@ impl Blame {
     }
 }
 
+/// Whether `blame_of` looks at the program's declarations where an event is refused for this reason.
+pub fn needs_program(reason: u8) -> bool {
+    matches!(reason, 33 | 44 | 46)
+}
+
 /// What is wrong with the event of this line and these tokens, which was refused for this reason where this was known.
 pub fn blame_of<'e>(
     alloc: Global,

@@ -1,16 +1,15 @@
 //! What is reported of refused events.
 
-use crate::reports::blame::{Blame, blame_of};
-use crate::reports::known::KnownNames;
+use crate::reports::blame::{Blame, blame_of, needs_program};
+use crate::reports::known::{KnownNames, line_tokens};
 use diagnostics::{
     Flaw, Printed, Severity, Span, TextKind, has_tokens, meaning, number_behind, push_flaw,
     text_spans,
 };
 use program_flaws::declarations_of;
-use sqlite_items::Items;
 use std::alloc::{AllocError, Global};
 use syntax_trees::Program;
-use texts::{PlaceFault, PlacedToken, placed_tokens, split_line};
+use texts::split_line;
 use trace_entries::Entry;
 
 /// So many refused events are reported where not all are asked for.
@@ -48,7 +47,7 @@ pub fn refusal_report(
     let mut text = String::new(alloc);
     let untold = match input {
         Some(input) => {
-            let script = RefusedScript::of(alloc, input)?;
+            let script = RefusedScript::of(alloc, input, refused.as_slice())?;
             script.push_refusals(&mut text, refused.as_slice(), most)?
         }
         None => push_unplaced(&mut text, refused.as_slice(), most)?,
@@ -105,24 +104,46 @@ struct RefusedScript<'a> {
     program: Option<Program>,
 }
 
+/// An event that is to be reported.
+#[derive(Clone, Copy)]
+struct ReportedEvent<'a> {
+    refused: RefusedEvent,
+    line: &'a [u8],
+    /// The byte of the script at which the line begins.
+    at: usize,
+    /// Whether the part that is wrong is looked for.
+    is_guessed: bool,
+}
+
 impl<'a> RefusedScript<'a> {
-    /// The script of this input, which is its last text.
-    fn of(alloc: Global, input: &'a [u8]) -> Result<RefusedScript<'a>, AllocError> {
+    /// The script of this input, which is its last text. The program is read only where one of these events has a reason of
+    /// which it can say more.
+    fn of(
+        alloc: Global,
+        input: &'a [u8],
+        refused: &[RefusedEvent],
+    ) -> Result<RefusedScript<'a>, AllocError> {
         let spans = text_spans(alloc, input)?;
         let whole = Span {
             begin: 0,
             end: input.len(),
         };
-        let program = TextKind::Program.span(spans.as_slice()).unwrap_or(whole);
+        let program = if refused.iter().any(|refused| needs_program(refused.reason)) {
+            let span = TextKind::Program.span(spans.as_slice()).unwrap_or(whole);
+            declarations_of(alloc, input.get(span.begin..span.end).unwrap_or(&[]))?
+        } else {
+            None
+        };
         Ok(RefusedScript {
             alloc,
             input,
             span: TextKind::Script.span(spans.as_slice()).unwrap_or(whole),
-            program: declarations_of(alloc, input.get(program.begin..program.end).unwrap_or(&[]))?,
+            program,
         })
     }
 
-    /// Adds what is reported of the first so many of these events, and answers how many are left.
+    /// Adds what is reported of the first so many of these events, and answers how many are left. Behind the last one that is
+    /// reported, lines are only looked at for comments.
     fn push_refusals(
         &self,
         text: &mut String,
@@ -135,23 +156,23 @@ impl<'a> RefusedScript<'a> {
         let mut event = 0u64;
         let mut told = 0usize;
         let mut untold = 0usize;
-        let mut next = 0usize;
-        while let Some((line, rest)) = split_line(left) {
+        let mut rest_refused = refused;
+        while let Some((line, rest)) = split_line(left)
+            && let Some((found, later)) = rest_refused.split_first()
+        {
             let at = script.len().saturating_sub(left.len());
             left = rest;
-            let tokens = line_tokens(self.alloc, line)?;
-            if tokens.is_empty() {
+            if !has_event(self.alloc, line)? {
                 continue;
             }
             event = event.saturating_add(1);
-            let Some(found) = refused.get(next) else {
-                break;
-            };
             if found.event != event {
-                known.take(line, tokens.as_slice())?;
+                if told < most {
+                    known.take(line)?;
+                }
                 continue;
             }
-            next = next.saturating_add(1);
+            rest_refused = later;
             if most <= FIRST_REFUSALS && is_expected(line, found.reason) {
                 continue;
             }
@@ -160,36 +181,38 @@ impl<'a> RefusedScript<'a> {
                 continue;
             }
             told = told.saturating_add(1);
-            let wrong = if told <= MOST_GUESSED {
-                let program = self.program.as_ref();
-                blame_of(
-                    self.alloc,
-                    found.reason,
-                    line,
-                    tokens.as_slice(),
-                    &known,
-                    program,
-                )?
-            } else {
-                Blame::whole()
+            let reported = ReportedEvent {
+                refused: *found,
+                line,
+                at,
+                is_guessed: told <= MOST_GUESSED,
             };
-            self.push_refusal(text, *found, line, at, tokens.as_slice(), wrong)?;
+            self.push_refusal(text, reported, &known)?;
         }
         Ok(untold)
     }
 
-    /// Adds what is reported of an event, whose line begins at this byte of the script and has these tokens.
+    /// Adds what is reported of an event, before which these names were made.
     fn push_refusal(
         &self,
         text: &mut String,
-        refused: RefusedEvent,
-        line: &[u8],
-        at: usize,
-        tokens: &[PlacedToken],
-        wrong: Blame,
+        reported: ReportedEvent<'_>,
+        known: &KnownNames<'_>,
     ) -> Result<(), AllocError> {
-        let RefusedEvent { event, reason } = refused;
-        let Blame { token, advice } = wrong;
+        let ReportedEvent {
+            refused: RefusedEvent { event, reason },
+            line,
+            at,
+            is_guessed,
+        } = reported;
+        let tokens = line_tokens(self.alloc, line)?;
+        let tokens = tokens.as_slice();
+        let Blame { token, advice } = if is_guessed {
+            let program = self.program.as_ref();
+            blame_of(self.alloc, reason, line, tokens, known, program)?
+        } else {
+            Blame::whole()
+        };
         let about = meaning(reason).unwrap_or("");
         let mut sentence = format!(in self.alloc; "event {event} refused {reason}: {about}")?;
         let mut inner = 0usize;
@@ -258,7 +281,7 @@ fn finds_unexpected(
         let Some(found) = refused.get(next) else {
             return Ok(false);
         };
-        if !has_tokens(alloc, line)? {
+        if !has_event(alloc, line)? {
             continue;
         }
         event = event.saturating_add(1);
@@ -272,11 +295,10 @@ fn finds_unexpected(
     Ok(next < refused.len())
 }
 
-/// The tokens of an event's line, which is cut into them.
-fn line_tokens(alloc: Global, line: &[u8]) -> Result<Items<PlacedToken>, AllocError> {
-    match placed_tokens(alloc, line) {
-        Ok(tokens) => Ok(tokens),
-        Err(PlaceFault::BadByte(_)) => Ok(Items::new(alloc)),
-        Err(PlaceFault::Memory) => Err(AllocError),
+/// Whether a line has an event, which begins with a word: so most lines needn't be cut into tokens.
+fn has_event(alloc: Global, line: &[u8]) -> Result<bool, AllocError> {
+    match line.trim_ascii_start().first() {
+        Some(byte) if byte.is_ascii_alphabetic() => Ok(true),
+        _ => has_tokens(alloc, line),
     }
 }
