@@ -90,33 +90,26 @@ pub fn find_witness<N: FittingNatives>(
         (IsSettling limits program.now)) }
 {
     let meta = load_program(alloc, limits, program)?;
-    match make(alloc, &meta) {
-        Ok(_) => Ok(SearchOutcome::Certified),
-        Err(Why::Memory) => Err(WitnessFault::Memory),
-        Err(Why::Wire(_) | Why::BodyType(_)) => Ok(SearchOutcome::NotFound),
+    let nodes = match make(alloc, &meta) {
+        Ok(_) => return Ok(SearchOutcome::Certified),
+        Err(Why::Memory) => return Err(WitnessFault::Memory),
+        Err(Why::Wire(_) | Why::BodyType(_)) => return Ok(SearchOutcome::NotFound),
+        // A program without cycles has a settling certificate only where it has one.
         Err(Why::Cycle(nodes)) => {
-            // A program without cycles has a settling certificate only where it has one.
             if settles(alloc, &meta)? {
                 return Ok(SearchOutcome::Settles);
             }
-            let trials = Trials {
-                limits,
-                program,
-                natives,
-            };
-            let sought = trials.search(alloc, &meta, nodes.as_slice())?;
-            Ok(sought)
+            nodes
         }
-        Err(Why::DestroyPath(nodes) | Why::TooHigh(nodes)) => {
-            let trials = Trials {
-                limits,
-                program,
-                natives,
-            };
-            let sought = trials.search(alloc, &meta, nodes.as_slice())?;
-            Ok(sought)
-        }
-    }
+        Err(Why::DestroyPath(nodes) | Why::TooHigh(nodes)) => nodes,
+    };
+    let trials = Trials {
+        limits,
+        program,
+        natives,
+    };
+    let sought = trials.search(alloc, &meta, nodes.as_slice())?;
+    Ok(sought)
 }
 
 /// Whether a settling certificate is made of the program. Its error is that memory was refused.
