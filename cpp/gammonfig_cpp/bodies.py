@@ -53,6 +53,7 @@ class Bodies:
                 self.declaration(inner)
         elif kind in TEMPLATES or is_pattern(cursor):
             self.context.has_templates = True
+            self.context.asks_bodies |= cursor.spelling == 'operator()'
         elif kind in RECORDS:
             self._record(cursor)
         elif kind in FUNCTIONS:
@@ -184,7 +185,7 @@ class Bodies:
                             context.classes.parameters(formals))
         context.facts.functions[key] = function
         if any('type-parameter' in p.type for p in function.parameters) or has_types(context.text(cursor)):
-            context.has_templates = True
+            context.has_templates = context.asks_bodies = True
         else:
             self._lambda_body(function, cursor, formals)
         return key

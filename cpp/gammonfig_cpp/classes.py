@@ -27,6 +27,8 @@ class Classes:
         self.found = context.facts.classes
         # Instances of templates of the application: nothing of them stands in the text.
         self.instances: list[Cursor] = []
+        # By the class of an instance, or of a class in one, what it is an instance of.
+        self.patterns: list[tuple[str, Cursor]] = []
         self._types: dict[str, tuple[str, bool]] = {}
 
     # Types
@@ -135,6 +137,9 @@ class Classes:
                     self.context.is_inside(cursor), definition is not None)
         self.found[key] = cls
         template = template_of(cursor) if '>#' in key else None
+        pattern = (template.get_definition() or template) if template is not None else None
+        if pattern is not None and cls.inside and self.context.place(pattern, 0) == self.context.place(cursor, 0):
+            self.patterns.append((key, pattern))
         if template is not None and template.kind == K.CLASS_TEMPLATE and not self._has_bases(cursor):
             self._instance(cls, cursor, template.get_definition() or template)
         elif definition is not None:

@@ -49,6 +49,8 @@ class Context:
         self.pointers: dict[str, Named] = {}
         # Whether a template of the application was met, or a lambda that is one.
         self.has_templates = False
+        # Whether a library's function was met that may make an instance of one: `instances.py`.
+        self.asks_bodies = False
         self._declared: set[str] = set()
         self._paths: dict[str, tuple[str, bool]] = {}
         self._texts: dict[str, bytes] = {}

@@ -8,10 +8,12 @@ from .calls import Calls
 from .classes import Classes
 from .connects import Connects
 from .context import Context
+from .instances import lacks_bodies
 from .libclang import cindex, quick
 from .libraries import Includes
 from .model import Class, Facts
 from .naming_callees import Callees
+from .precompiled import Shared
 from .templates import any_in
 from .units import ANNOTATIONS, Unit, is_generated, real
 from .values import Values
@@ -21,14 +23,14 @@ ERROR = 3
 OF_CLANG = ('stddef.h', 'stdarg.h', 'float.h', 'limits.h', 'stdint.h')
 
 
-def read_unit(unit: Unit, roots: list[str], known: dict[str, Class], headers: str | None = None) -> Facts:
-    """Reads one unit. `known` has the classes of libraries that earlier units have told, `headers` the file of those that are parsed already:
-    a unit that doesn't go with them is read without."""
+def read_unit(unit: Unit, roots: list[str], known: dict[str, Class], headers: Shared | None = None) -> Facts:
+    """Reads one unit. `known` has the classes of libraries that earlier units have told, `headers` are those that are parsed already: a unit
+    that doesn't go with them is read without."""
     facts = _read(unit, roots, known, headers)
     return _read(unit, roots, known, None) if facts.errors and headers is not None else facts
 
 
-def _read(unit: Unit, roots: list[str], known: dict[str, Class], headers: str | None) -> Facts:
+def _read(unit: Unit, roots: list[str], known: dict[str, Class], headers: Shared | None) -> Facts:
     """Reads a unit with the instances of templates, where its text has a template. Where clang's tree has one that the text doesn't show,
     as by a macro, the unit is read again."""
     begun = time.process_time()
@@ -40,12 +42,12 @@ def _read(unit: Unit, roots: list[str], known: dict[str, Class], headers: str | 
     return facts
 
 
-def _read_once(unit: Unit, roots: list[str], known: dict[str, Class], headers: str | None, is_whole: bool) -> tuple[Facts, bool]:
+def _read_once(unit: Unit, roots: list[str], known: dict[str, Class], headers: Shared | None, is_whole: bool) -> tuple[Facts, bool]:
     """The facts of a unit, and whether it has templates of the application: their instances are there only where it is parsed whole."""
     context = Context(unit.source, roots)
     facts = context.facts
     quick.forget()
-    shared = ['-include-pch', headers] if headers is not None else []
+    shared = ['-include-pch', headers.path] if headers is not None else []
     try:
         tree = cindex.Index.create(excludeDecls=True).parse(unit.source, args=[*unit.flags, *ANNOTATIONS, *shared],
                                                             options=0 if is_whole else cindex.TranslationUnit.PARSE_INCOMPLETE)
@@ -63,6 +65,7 @@ def _read_once(unit: Unit, roots: list[str], known: dict[str, Class], headers: s
         if not cls.inside and cls.defined:
             known[key] = cls
     has_templates = context.has_templates
+    facts.lacks_bodies = is_whole and headers is not None and not headers.has_bodies and lacks_bodies(context)
     context.close()
     quick.forget()
     return facts, has_templates

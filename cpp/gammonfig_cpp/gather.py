@@ -5,9 +5,9 @@ import os
 import sys
 import tempfile
 import time
-from collections import Counter
 from concurrent.futures import ProcessPoolExecutor, as_completed
 from concurrent.futures.process import BrokenProcessPool
+from dataclasses import replace
 from typing import Iterable, Iterator
 
 from .cleaning import clean
@@ -16,7 +16,8 @@ from .facts import read_unit
 from .model import Class, Facts
 from .libraries import kinds_of
 from .packing import Packed, Unpacking, pack
-from .precompiled import LEAST, Headers, Kind, kept, parse
+from .precompiled import Headers, Kind, Shared
+from .sharing import headers_for
 from .store import Cache
 from .units import Unit
 
@@ -24,7 +25,7 @@ from .units import Unit
 _known: dict[str, Class] = {}
 
 
-def _read(unit: Unit, roots: list[str], headers: str | None) -> Packed:
+def _read(unit: Unit, roots: list[str], headers: Shared | None) -> Packed:
     """The facts of a unit. Where the reader itself breaks down over it, that is an error of the unit, and not of all."""
     sys.setrecursionlimit(20000)
     try:
@@ -71,12 +72,10 @@ def gather(units: list[Unit], roots: list[str], cache: Cache | None, jobs: int, 
     bar = Bar(len(missing), quiet)
     with tempfile.TemporaryDirectory(prefix='gammonfig-headers') as own:
         kinds = kinds_of(units, roots) if missing else {}
-        headers = headers_for({unit: kinds[unit] for unit in missing}, cache.folder if cache is not None else own, jobs)
-        for unit, packed in _read_all(missing, roots, jobs, headers):
+        for unit, packed, headers in _read_missing({unit: kinds[unit] for unit in missing}, roots, cache.folder if cache is not None else own, jobs):
             found[unit] = unpacking.facts(packed.words)
-            shared = headers[unit]
             if cache is not None and packed.is_well:
-                cache.keep(unit, roots, packed, shared.files if packed.is_sharing and shared is not None else ())
+                cache.keep(unit, roots, packed, headers.files if packed.is_sharing and headers is not None else ())
             bar.step(unit.source)
     if cache is not None:
         clean(cache.folder)
@@ -89,40 +88,28 @@ def _remember(told: Iterable[Facts]) -> None:
         _known.update((key, cls) for key, cls in facts.classes.items() if not cls.inside and cls.defined)
 
 
-def headers_for(kinds: dict[Unit, Kind | None], folder: str, jobs: int) -> dict[Unit, Headers | None]:
-    """The headers that units share: those that are kept, and where enough units are to be read new ones. Where too few units share those
-    of libraries, they share Qt's."""
-    counts = Counter(kind for kind in kinds.values() if kind is not None)
-    found = {kind: kept(kind, folder) for kind in counts}
-    missing = {kind: count for kind, count in counts.items() if found[kind] is None}
-    on_base: Counter[Kind] = Counter()
-    for kind, count in missing.items():
-        on_base[kind.base() or kind] += count
-    _parse_all([kind for kind, count in on_base.items() if count >= LEAST and kept(kind, folder) is None], folder, jobs)
-    _parse_all([kind for kind, count in missing.items() if count >= LEAST and kind.base() is not None], folder, jobs)
-    found |= {kind: kept(kind, folder) or kept(kind.base() or kind, folder) for kind in missing}
-    return {unit: found[kind] if kind is not None else None for unit, kind in kinds.items()}
-
-
-def _parse_all(kinds: list[Kind], folder: str, jobs: int) -> None:
-    """Parses headers in processes of their own: their memory goes with them."""
-    if not kinds:
-        return
-    with ProcessPoolExecutor(max(1, min(jobs, len(kinds)))) as pool:
-        try:
-            list(pool.map(parse, kinds, [folder] * len(kinds)))
-        except BrokenProcessPool:
-            pass
+def _read_missing(kinds: dict[Unit, Kind | None], roots: list[str], folder: str, jobs: int) -> Iterator[tuple[Unit, Packed, Headers | None]]:
+    """The units with their facts, as they are done: those that lack bodies of a library's functions are read again with them."""
+    units = list(kinds)
+    while units:
+        headers, lacking = headers_for(kinds, folder, jobs), list[Unit]()
+        for unit, packed in _read_all(units, roots, jobs, headers):
+            if packed.lacks_bodies:
+                lacking.append(unit)
+            else:
+                yield unit, packed, headers[unit]
+        units = lacking
+        kinds = kinds | {unit: replace(kind, has_bodies=True) for unit in units if (kind := kinds[unit]) is not None}
 
 
 def _read_all(units: list[Unit], roots: list[str], jobs: int, headers: dict[Unit, Headers | None]) -> Iterator[tuple[Unit, Packed]]:
     """The units with their facts, as they are done."""
-    paths = {unit: shared.path if shared is not None else None for unit, shared in headers.items()}
+    shared = {unit: them.shared if them is not None else None for unit, them in headers.items()}
     if len(units) <= 1 or jobs <= 1:
-        yield from ((unit, _read(unit, roots, paths[unit])) for unit in units)
+        yield from ((unit, _read(unit, roots, shared[unit])) for unit in units)
         return
     with ProcessPoolExecutor(min(jobs, len(units))) as pool:
-        waiting = {pool.submit(_read, unit, roots, paths[unit]): unit for unit in units}
+        waiting = {pool.submit(_read, unit, roots, shared[unit]): unit for unit in units}
         for done in as_completed(waiting):
             try:
                 yield waiting[done], done.result()

@@ -7,6 +7,7 @@ from collections import Counter, defaultdict
 from dataclasses import replace
 
 from .precompiled import MODULE, Kind, Library, kind_of
+from .templates import any_generic_in
 from .units import PATHS, Unit
 
 # Where compilers look by themselves.
@@ -95,14 +96,18 @@ def is_of_qt(folder: str, name: str) -> bool:
 
 
 def kinds_of(units: list[Unit], roots: list[str]) -> dict[Unit, Kind | None]:
-    """What headers each unit can share: beside Qt's those of libraries that enough units of its kind include, if it includes one of them."""
+    """What headers each unit can share: beside Qt's those of libraries that enough units of its kind include, if it includes one of them.
+    They have the bodies of functions where the unit has one that is a template."""
     kinds, includes = {unit: kind_of(unit) for unit in units}, Includes(roots)
     reached = {unit: includes.libraries(unit) for unit, kind in kinds.items() if kind is not None}
     counts: dict[Kind, Counter[Library]] = defaultdict(Counter)
-    for unit, found in reached.items():
+    for unit, names in reached.items():
         kind = kinds[unit]
         assert kind is not None
-        counts[kind].update(found)
+        counts[kind].update(names)
     shared = {kind: {library for library, count in counted.items() if count >= OFTEN} for kind, counted in counts.items()}
-    return {unit: replace(kind, libraries=tuple(sorted(shared[kind]))) if kind is not None and reached[unit] & shared[kind] else kind
-            for unit, kind in kinds.items()}
+    found: dict[Unit, Kind | None] = {}
+    for unit, kind in kinds.items():
+        libraries = tuple(sorted(shared[kind])) if kind is not None and reached[unit] & shared[kind] else ()
+        found[unit] = replace(kind, libraries=libraries, has_bodies=any_generic_in(includes.files(unit))) if kind is not None else None
+    return found

@@ -242,6 +242,8 @@ class Facts:
     files: list[str] = field(default_factory=list)
     # Whether it was read with headers that it shares with others: their files are none of its own.
     is_sharing: bool = False
+    # Whether something may be missing, since the bodies of a library's functions were passed over.
+    lacks_bodies: bool = False
     named_slots: bool = False
     disconnects: int = 0
     seconds: float = 0.0

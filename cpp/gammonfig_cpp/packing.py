@@ -14,12 +14,13 @@ class Packed:
     files: list[str]
     is_sharing: bool
     is_well: bool
+    lacks_bodies: bool
 
 
 def pack(facts: Facts) -> Packed:
     classes = [pickle.dumps(cls, protocol=5) for cls in facts.classes.values()]
     rest = replace(facts, classes={}, files=[])
-    return Packed(pickle.dumps((classes, rest), protocol=5), facts.files, facts.is_sharing, not facts.errors)
+    return Packed(pickle.dumps((classes, rest), protocol=5), facts.files, facts.is_sharing, not facts.errors, facts.lacks_bodies)
 
 
 class Unpacking:

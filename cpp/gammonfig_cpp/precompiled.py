@@ -21,6 +21,9 @@ ONCE = '-fpch-instantiate-templates'
 # How a header is parsed that is kept: without what follows it, and with a mark on what it takes from headers that are parsed already.
 # libclang's module has no name for the second.
 WHOLE = cindex.TranslationUnit.PARSE_INCOMPLETE | 0x10
+# What a library's functions do isn't read, so their bodies are passed over, but where a constant or a type is made of one. Else each unit
+# made all instances of theirs that it asks for, which took half of its time.
+BODILESS = WHOLE | cindex.TranslationUnit.PARSE_SKIP_FUNCTION_BODIES
 # The folder of a module's headers, and the header in it that includes them all.
 MODULE = re.compile(r'Qt[A-Z]\w*$')
 
@@ -34,20 +37,25 @@ class Library:
 
 @dataclass(frozen=True)
 class Kind:
-    """What units have in common that can share headers: the modules of Qt that they may include, the flags that decide what those say, and
-    the headers of other libraries that enough of them include."""
+    """What units have in common that can share headers: the modules of Qt that they may include, the flags that decide what those say, the
+    headers of other libraries that enough of them include, and whether they need what the functions of all these do: `instances.py`."""
     modules: tuple[str, ...]
     flags: tuple[str, ...]
     libraries: tuple[Library, ...] = ()
+    has_bodies: bool = False
 
     def base(self) -> Kind | None:
         """Of a kind with libraries that without: its headers are parsed first, in a process of their own, and those of the libraries
         on top of them. Together they took 660 MB."""
         return replace(self, libraries=()) if self.libraries else None
 
+    def bare(self) -> Kind:
+        """What it is but for bodies: those of few units that need them are parsed where enough others share the same headers without."""
+        return replace(self, has_bodies=False)
+
     def name(self) -> str:
         libraries = [word for it in self.libraries for word in (it.folder, it.name)]
-        words = '\0'.join((*self.modules, '', *self.flags, '', *libraries, '', *ANNOTATIONS, ONCE, '', version()))
+        words = '\0'.join((*self.modules, '', *self.flags, '', *libraries, '', *ANNOTATIONS, ONCE, str(self.has_bodies), '', version()))
         return 'headers-' + hashlib.sha256(words.encode()).hexdigest()[:40]
 
     def text(self) -> str:
@@ -60,9 +68,16 @@ class Kind:
 
 
 @dataclass(frozen=True)
+class Shared:
+    """Parsed headers, and whether they have the bodies of functions."""
+    path: str
+    has_bodies: bool
+
+
+@dataclass(frozen=True)
 class Headers:
     """Parsed headers, and the files that they were parsed of."""
-    path: str
+    shared: Shared
     files: tuple[str, ...]
 
 
@@ -113,7 +128,7 @@ def kept(kind: Kind, folder: str) -> Headers | None:
     if not os.path.exists(path + '.pch'):
         return below
     names = tuple(name for name, _ in stamps)
-    return Headers(path + '.pch', names if below is None else tuple(sorted({*names, *below.files})))
+    return Headers(Shared(path + '.pch', kind.has_bodies), names if below is None else tuple(sorted({*names, *below.files})))
 
 
 def parse(kind: Kind, folder: str) -> bool:
@@ -143,13 +158,14 @@ def write_once(path: str, text: str) -> None:
 
 def _parse(kind: Kind, path: str, below: Headers | None) -> bool:
     write_once(path + '.h', kind.text())
-    on = ['-include-pch', below.path] if below is not None else []
-    tree = cindex.Index.create().parse(path + '.h', args=['-x', 'c++-header', *kind.flags, *kind.folders(), *ANNOTATIONS, ONCE, *on], options=WHOLE)
+    on = ['-include-pch', below.shared.path] if below is not None else []
+    tree = cindex.Index.create().parse(path + '.h', args=['-x', 'c++-header', *kind.flags, *kind.folders(), *ANNOTATIONS, ONCE, *on],
+                                       options=WHOLE if kind.has_bodies else BODILESS)
     are_well = all(found.severity < ERROR for found in tree.diagnostics)
     if not are_well and below is None:
         return False
     beside = f'{path}.{os.getpid()}'
-    names = {os.path.realpath(i.include.name) for i in tree.get_includes()} | {path + '.h'} | ({below.path} if below is not None else set())
+    names = {os.path.realpath(i.include.name) for i in tree.get_includes()} | {path + '.h'} | ({below.shared.path} if below is not None else set())
     if are_well:
         tree.save(beside)
         os.replace(beside, path + '.pch')

@@ -13,6 +13,9 @@ from .precompiled import stamp
 # A template, a lambda with types of its own or with `auto` among its parameters, and a function with `auto` among them.
 OWN = re.compile(r'\btemplate\b|\]\s*<\s*(?:typename|class|auto)\b|\b(?!(?:for|if|while|switch)\b)\w+\s*\([^();{}]*\bauto\b'
                  r'|\]\s*\([^()]*\bauto\b|,\s*(?:const\s+)?auto\b')
+# A lambda that is a template, and a template of what is called: a library's function that is handed one makes the instance.
+GENERIC = re.compile(r'\]\s*<\s*(?:typename|class|auto)\b|\]\s*\([^()]*\bauto\b|\boperator\s*\(\s*\)\s*\([^()]*\bauto\b'
+                     r'|\btemplate\b[^;{}]*\boperator\s*\(\s*\)')
 
 
 def has_types(words: str) -> bool:
@@ -26,14 +29,18 @@ def has_types(words: str) -> bool:
 
 
 def any_in(paths: Iterable[str]) -> bool:
-    return any(_stands_in(path, *stamp(path)) for path in paths)
+    return any(_stands_in(OWN, path, *stamp(path)) for path in paths)
+
+
+def any_generic_in(paths: Iterable[str]) -> bool:
+    return any(_stands_in(GENERIC, path, *stamp(path)) for path in paths)
 
 
 @cache
-def _stands_in(path: str, size: int, time: int) -> bool:
-    """Whether a template stands in a file of this size and time; in one that can't be read one may."""
+def _stands_in(words: re.Pattern[str], path: str, size: int, time: int) -> bool:
+    """Whether such words stand in a file of this size and time; in one that can't be read they may."""
     try:
         with open(path, encoding='utf-8', errors='replace') as file:
-            return OWN.search(file.read()) is not None
+            return words.search(file.read()) is not None
     except OSError:
         return True

@@ -130,6 +130,7 @@ class Values:
             made = self.made_by_call(cursor, cls)
             if self.context.facts.classes[cls].inside:
                 self.context.calls.note_construction('', made, given)
+                self.context.asks_bodies |= '>#' in cls
             return made
         if parent is not None and parent.kind in RECORDS:
             found = self._of_member(cursor, cls, depth)

@@ -4,9 +4,9 @@ import pathlib
 
 from reading import flags
 from gammonfig_cpp.facts import read_unit
-from gammonfig_cpp.gather import headers_for
 from gammonfig_cpp.libraries import OFTEN, kinds_of
 from gammonfig_cpp.precompiled import LEAST, Headers, Kind, Library, kept, parse
+from gammonfig_cpp.sharing import headers_for
 from gammonfig_cpp.units import Unit
 
 HEADER = '#pragma once\nnamespace {name} {{ inline int value() {{ return 1; }} }}\n'
@@ -72,7 +72,7 @@ def test_a_unit_says_the_same(tmp_path: pathlib.Path) -> None:
     units = project(tmp_path, LEAST)
     headers = parsed(kinds_of(units, roots)[units[-1]], str(tmp_path))
     assert any(name.endswith('lib/lib.hpp') for name in headers.files) and any(name.endswith('/qobject.h') for name in headers.files)
-    one, other = read_unit(units[-1], roots, {}, headers.path), read_unit(units[-1], roots, {})
+    one, other = read_unit(units[-1], roots, {}, headers.shared), read_unit(units[-1], roots, {})
     assert not one.errors and one.functions == other.functions
 
 

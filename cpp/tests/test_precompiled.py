@@ -31,7 +31,7 @@ def told(facts: Facts) -> tuple[object, ...]:
 
 
 def test_a_unit_says_the_same() -> None:
-    alone, together = read_unit(CASE, [CASES], {}), read_unit(CASE, [CASES], {}, shared()[2].path)
+    alone, together = read_unit(CASE, [CASES], {}), read_unit(CASE, [CASES], {}, shared()[2].shared)
     assert told(alone) == told(together) and not alone.errors
     assert {k for k, c in alone.classes.items() if c.inside} == {k for k, c in together.classes.items() if c.inside}
     assert together.is_sharing and set(alone.files) <= {*together.files, *shared()[2].files}, 'a change of any header is a reason to read the unit anew'
@@ -40,7 +40,7 @@ def test_a_unit_says_the_same() -> None:
 def test_a_unit_that_does_not_go_with_them(tmp_path: pathlib.Path) -> None:
     """A class of its own has the name of one of Qt's, whose header it doesn't include."""
     (tmp_path / 'a.cpp').write_text('#include <QObject>\nclass QLockFile : public QObject {\n    Q_OBJECT\nsignals:\n    void locked();\n};\n')
-    facts = read_unit(Unit(str(tmp_path / 'a.cpp'), flags('Qt6Core')), [str(tmp_path)], {}, shared()[2].path)
+    facts = read_unit(Unit(str(tmp_path / 'a.cpp'), flags('Qt6Core')), [str(tmp_path)], {}, shared()[2].shared)
     assert not facts.errors and [c.inside for c in facts.classes.values() if c.name == 'QLockFile'] == [True]
 
 
@@ -49,7 +49,7 @@ def test_a_tree_goes_with_its_unit() -> None:
     gc.collect()
     gc.disable()
     try:
-        assert read_unit(CASE, [CASES], {}, shared()[2].path).functions
+        assert read_unit(CASE, [CASES], {}, shared()[2].shared).functions
         assert not [it for it in gc.get_objects() if isinstance(it, cindex.TranslationUnit)]
     finally:
         gc.enable()
