@@ -1,12 +1,13 @@
 """Headers of libraries beside Qt that many units include: which are shared, and by whom."""
 import os
 import pathlib
+from collections import Counter
 
 from reading import flags
 from gammonfig_cpp.facts import read_unit
 from gammonfig_cpp.libraries import OFTEN, kinds_of
 from gammonfig_cpp.precompiled import LEAST, Headers, Kind, Library, kept, parse
-from gammonfig_cpp.sharing import headers_for
+from gammonfig_cpp.sharing import headers_for, hosts_of, mention, own_macros
 from gammonfig_cpp.units import Unit
 
 HEADER = '#pragma once\nnamespace {name} {{ inline int value() {{ return 1; }} }}\n'
@@ -106,3 +107,31 @@ def test_few_units_with_libraries_share_those_of_qt(tmp_path: pathlib.Path) -> N
     assert {len(kind.libraries) for kind in kinds.values() if kind is not None} == {0, 1}
     shared = set(headers_for(kinds, str(tmp_path), 1).values())
     assert [headers is not None and not any(name.endswith('lib.hpp') for name in headers.files) for headers in shared] == [True]
+
+
+def test_macros_of_few_units(tmp_path: pathlib.Path) -> None:
+    """A macro that no header names changes nothing of what the headers say."""
+    roots, units = [str(tmp_path / 'app')], project(tmp_path, LEAST)
+    guest, apart = (Unit(units[-1].source, (*units[-1].flags, macro)) for macro in ('-DOWN_WORD=1', '-DQT_NO_KEYWORDS'))
+    headers = headers_for(kinds_of([*units, guest, apart], roots), str(tmp_path), 1)
+    assert headers[guest] is not None and headers[guest] == headers[units[0]] and headers[apart] is None
+    shared = headers[guest]
+    assert shared is not None
+    one, other = read_unit(guest, roots, {}, shared.shared), read_unit(guest, roots, {})
+    assert one.is_sharing and not one.errors and one.functions == other.functions
+
+
+def test_which_kinds_do_for_which() -> None:
+    libraries = (Library('/lib', 'a.hpp'), Library('/lib', 'b.hpp'))
+    most, few, other = Kind(('QtCore',), ('-DA', '-fPIC')), Kind(('QtCore',), ('-DA', '-DB=1', '-fPIC')), Kind(('QtCore',), ('-DB', '-DC'))
+    assert own_macros(few, most) == ['B'] and not own_macros(most, few) and not own_macros(other, most) and not own_macros(most, most)
+    assert not own_macros(Kind(('QtCore',), ('-DA', '-fPIC', '-std=c++20')), most), 'a flag that is no macro'
+    with_one, with_both = Kind(few.modules, few.flags, libraries[:1]), Kind(most.modules, most.flags, libraries)
+    counts = Counter({most: 9, few: 2, other: 1, with_one: 3, with_both: 4})
+    assert hosts_of(counts) == {few: most, with_one: with_both}
+
+
+def test_names_in_headers(tmp_path: pathlib.Path) -> None:
+    (tmp_path / 'a.h').write_text('#ifdef WORD\n#endif\n')
+    path = str(tmp_path / 'a.h')
+    assert mention([path], ['OTHER', 'WORD']) and not mention([path], ['WOR']) and mention([str(tmp_path / 'b.h')], ['WOR'])
