@@ -1,6 +1,7 @@
 """The facts of all units: in parallel over all processors, from the cache where nothing has changed."""
 from __future__ import annotations
 
+import gc
 import os
 import sys
 import tempfile
@@ -26,8 +27,10 @@ _known: dict[str, Class] = {}
 
 
 def _read(unit: Unit, roots: list[str], headers: Shared | None) -> Packed:
-    """The facts of a unit. Where the reader itself breaks down over it, that is an error of the unit, and not of all."""
+    """The facts of a unit. Where the reader itself breaks down over it, that is an error of the unit, and not of all. Python looks for no
+    circles meanwhile: what a unit's tree is asked stays until the unit is read."""
     sys.setrecursionlimit(20000)
+    gc.disable()
     try:
         return pack(read_unit(unit, roots, _known, headers))
     except Exception as wrong:  # whatever libclang's module may raise
@@ -35,6 +38,8 @@ def _read(unit: Unit, roots: list[str], headers: Shared | None) -> Packed:
             raise
         broken = f'{unit.source}: the reader broke down over this file: {type(wrong).__name__}: {wrong}'
         return pack(Facts(unit.source, errors=[broken]))
+    finally:
+        gc.enable()
 
 
 class Bar:

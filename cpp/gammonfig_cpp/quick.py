@@ -204,9 +204,13 @@ class Quick:
             found._tu = asked[0]._tu
             return found
 
+        first_expression = self.cindex.CursorKind.UNEXPOSED_EXPR.value
+
         def arguments(self: Cursor) -> list[Cursor]:
             given = [at(self, number) for number in range(count(self))]
-            below = {bytes(child): child for child in self._below} if given else {}
+            if not given or self._kind_id < first_expression:
+                return given
+            below = {bytes(child): child for child in self._below}
             return [below.get(bytes(one), one) for one in given]
 
         at.errcheck = argument

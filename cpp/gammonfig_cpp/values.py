@@ -29,6 +29,9 @@ ITEM_WIDGETS = ('QListWidget', 'QTreeWidget', 'QTableWidget', 'QTreeWidgetItem')
 # Functions of Qt that may give away what an object has owned: the table says which of them do.
 GIVING_AWAY = re.compile('(take|remove|replace|set)[A-Z]')
 
+# What may change a variable.
+CHANGING = {K.COMPOUND_ASSIGNMENT_OPERATOR, K.UNARY_OPERATOR, K.BINARY_OPERATOR, K.CALL_EXPR}
+
 
 class Values:
     def __init__(self, context: Context) -> None:
@@ -212,7 +215,7 @@ class Values:
         """The parameters that a body may change, so that they can't be taken to be handed on."""
         changed: set[str] = set()
         for cursor in body.walk_preorder():
-            for target in self._changes(cursor):
+            for target in self._changes(cursor) if cursor.kind in CHANGING else ():
                 named = strip(target)
                 if named.kind == K.DECL_REF_EXPR and named.referenced is not None and named.referenced.kind == K.PARM_DECL:
                     changed.add(self.context.variable_key(named.referenced) or '')
