@@ -5,6 +5,7 @@ from typing import Collection, Iterator, Sequence
 
 from .deaths import Deaths
 from .editors import Editors
+from .inner import MODEL
 from .items import Items
 from .model import Function, Parameter, Statement, Term, Value
 from .objects import FREE, Element
@@ -12,7 +13,6 @@ from .program import Key, Member, Program, Step, Wire
 from .qtmodel import EDITOR, Entry, QtModel, Written
 from .relations import Related
 from .replacing import Replacing
-from .selections import MODEL, SELECTION
 
 
 class Calling:
@@ -215,15 +215,17 @@ class Calling:
             inner = [o for o in sorted(self.owned(element)) if whole.is_a(self.objects.cls(o), key)]
             if self.is_connected(Element('class', key)):
                 inner.append(Element('class', key))
-            inner += self._selections(element, key) if class_name == SELECTION else []
+            inner += self._inner(element, key)
             steps += [Step('call', program.emitter(usr), program.role(o)) for o in inner if usr is not None]
         return list({s.same(): s for s in [*steps, *self._wired(element, class_name, signal)]}.values())
 
-    def _selections(self, view: Element, cls: str) -> list[Element]:
-        """The selection of a view, where somebody is connected to it; any, where it isn't known which view it is."""
-        heard = [it for it in self.objects.selections.views if self.is_connected(it)]
-        own = self.objects.selections.of(view)
-        return [it for it in heard if it == own] if own is not None else [Element('class', cls)] if heard else []
+    def _inner(self, element: Element, cls: str) -> list[Element]:
+        """The objects of a class that Qt made in one, where somebody is connected to them; any, where it isn't known which one it is."""
+        inner, kind = self.objects.inner, self.objects.inner.kind(element)
+        if kind is None or kind.cls != self.whole.name(cls):
+            return []
+        heard, own = [it for it, _ in inner.pairs(kind.cls) if self.is_connected(it)], inner.of(element)
+        return [it for it in heard if it in own] if own is not None else [Element('class', cls)] if heard else []
 
     def _wired(self, element: Element, class_name: str, signal: str) -> list[Step]:
         """What Qt itself connects to a signal of an object that it made in this one, as the selection of a view to functions of the view, its
@@ -232,7 +234,7 @@ class Calling:
         wires = [wire for wire in self.qt.table.wires if (wire.sender, wire.signal, wire.by) == (class_name, signal, '')]
         own = [self.whole.is_named(cls, wire.receiver) for wire in wires]
         for wire, is_own in zip(wires, own) if any(own) else ():
-            models = self.objects.selections.models(element) if wire.receiver == MODEL and self.objects.selections.of(element) else ()
+            models = self.objects.inner.models(element) if wire.receiver == MODEL and self.objects.inner.of(element) else ()
             found = self.callbacks(element, wire.member if is_own else f'{wire.receiver}::{wire.member}') if not models else \
                 [target for model in sorted(models) for target in self.callbacks(model, wire.member)]
             steps += [Step('call', key, on, words=f'Qt connects {signal} to {wire.member}') for on, key in found]
@@ -311,7 +313,7 @@ class Calling:
             for element in self.objects.elements(connect.sender, connect.sender_class):
                 if signal.kind == 'method' and not whole.is_a(self.objects.cls(element), signal.cls):
                     yield Element('class', signal.cls)
-                elif element in self.objects.selections.views:
+                elif element in self.objects.inner.around:
                     yield element
                 elif element.kind == 'class':
                     yield element

@@ -7,9 +7,9 @@ from __future__ import annotations
 from collections import defaultdict, deque
 from typing import NamedTuple
 
+from .inner import Inner
 from .model import SHARED_LATER, SHARED_ONCE, Value
-from .qtmodel import QtModel
-from .selections import GIVING, Selections
+from .qtmodel import GIVING, QtModel
 from .whole import Whole
 
 
@@ -31,9 +31,14 @@ class Objects:
         self.held_by: dict[str, set[Element]] = defaultdict(set)
         self._elements: dict[tuple[Value, str], frozenset[Element]] = {}
         self._stands_for: dict[str, Element] = {}
-        self.selections = Selections(self)
+        self.inner = Inner(self)
         self._solve()
-        self.selections.make_all(Element)
+        if self.inner.is_unclear():
+            self.may.clear()
+            self.held.clear()
+            self.held_by.clear()
+            self._solve()
+        self.inner.make_all(Element)
         self._gather_roles()
 
     def _called_from_outside(self) -> set[str]:
@@ -176,19 +181,13 @@ class Objects:
             return self._cast(value, final)
         if kind == 'content' or (kind == 'given' and self._is_given_away(value)):
             return self._content(value, final)
-        if kind == 'given' and value.key == GIVING:
-            return self._selections(value)
         if kind == 'given':
-            return self._class(value.cls)
+            inner = self.inner.given(value) if value.key in GIVING else None
+            return inner if inner is not None else self._class(value.cls)
         found: set[Element] = set()
         for part in value.parts if kind == 'any' else ():
             found |= self.resolve(part, final)
         return found
-
-    def _selections(self, value: Value) -> set[Element]:
-        """The selections of views; any, where it isn't known of which."""
-        found = [self.selections.of(view) for view in self.resolve(value.parts[0], True)]
-        return {e for e in found if e is not None} if found and None not in found else self._class(value.cls)
 
     def _is_given_away(self, value: Value) -> bool:
         """Whether a function of Qt gives away what the object has owned."""

@@ -4,11 +4,11 @@ from __future__ import annotations
 from typing import Iterator
 
 from .calling import Calling
+from .inner import MODEL, OF_BOXES, SELECTION, VIEW
 from .model import Handed
 from .objects import Element
 from .program import Key, Program, Wire
 from .qtmodel import EDITOR, QtWire
-from .selections import MODEL, SELECTION, VIEW
 
 Pair = tuple[Element, Element]
 
@@ -30,17 +30,18 @@ class QtWires:
     def _pairs(self, wire: QtWire, senders: set[Element]) -> Iterator[Pair]:
         if wire.by:
             return self._handed(wire)
-        known = self.objects.selections.views and not any(self.calling.is_connected(Element('class', key))
-                                                          for key in self.whole.by_name.get(SELECTION, ()))
+        if any((wire.sender, wire.receiver) == (kind.cls, kind.around) for kind in OF_BOXES) and wire.sender not in self.objects.inner.of_unknown:
+            return ((one, box) for one, box in self.objects.inner.pairs(wire.sender) if self._is_named(box, wire.receiver))
+        known = self.objects.inner.pairs(SELECTION) and not any(self.calling.is_connected(Element('class', key))
+                                                                for key in self.whole.by_name.get(SELECTION, ()))
         return self._of_views(wire) if known and SELECTION in (wire.sender, wire.receiver) else self._of_classes(wire, senders)
 
     def _of_views(self, wire: QtWire) -> Iterator[Pair]:
         """What Qt connects within one view: its selection, its model, itself, and what edits its items."""
-        for selection, views in sorted(self.objects.selections.views.items()):
-            for view in sorted(views):
-                for one in [selection] if wire.sender == SELECTION else self._in_view(wire.sender, view):
-                    for other in [selection] if wire.receiver == SELECTION else self._in_view(wire.receiver, view):
-                        yield one, other
+        for selection, view in self.objects.inner.pairs(SELECTION):
+            for one in [selection] if wire.sender == SELECTION else self._in_view(wire.sender, view):
+                for other in [selection] if wire.receiver == SELECTION else self._in_view(wire.receiver, view):
+                    yield one, other
 
     def _in_view(self, name: str, view: Element) -> list[Element]:
         if name == EDITOR or self._is_named(view, name):
@@ -48,7 +49,7 @@ class QtWires:
         if any(self.whole.is_named(key, VIEW) for key in self.whole.by_name.get(name, ())) or not self.calling.items.may_reach(view, name):
             return []
         if name == MODEL:
-            return sorted(self.objects.selections.models(view))
+            return sorted(self.objects.inner.models(view))
         return [Element('class', key) for key in self.whole.by_name.get(name, ())]
 
     def _of_classes(self, wire: QtWire, senders: set[Element]) -> Iterator[Pair]:

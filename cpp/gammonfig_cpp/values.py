@@ -7,6 +7,7 @@ from .classes import CONTAINERS, SMART
 from .context import Context, sort_of
 from .libclang import CASTS, NAMES, RECORDS, REFERENCES, VARIABLES, Cursor, K, T, bare, expressions, is_written, strip
 from .model import NONE, NULL, UNKNOWN, Parameter, Term, Value
+from .qtmodel import GIVING
 
 CAST_FUNCTIONS = {'qobject_cast', 'dynamic_pointer_cast', 'qSharedPointerCast', 'qSharedPointerObjectCast', 'qSharedPointerDynamicCast',
                   'qgraphicsitem_cast', 'qobject_pointer_cast', 'static_pointer_cast', 'const_pointer_cast'}
@@ -159,7 +160,7 @@ class Values:
             return Value('content', cls=cls, parts=(holder,))
         if self.is_factory(name, cls):
             return self.made_by_call(cursor, cls)
-        if GIVING_AWAY.match(name) or name == 'selectionModel':
+        if GIVING_AWAY.match(name) or name in GIVING:
             return Value('given', name, cls, (self.of(on, depth + 1) if on is not None else self.context.this,))
         return None
 

@@ -4,10 +4,10 @@ from reading import case
 
 def test_a_selection_follows_the_model_of_its_own_view() -> None:
     told = [w.split(' -> ') for w in case('selections').wires() if 'Qt connects' in w and w.startswith('wire QStandardItemModel')]
-    pairs = {sender.split()[1].removeprefix('QStandardItemModel_'): receiver.split()[0].removeprefix('QItemSelectionModel_')
-             for sender, receiver in told}
-    assert pairs == {'m_tasks': 'm_left_selection', 'm_feeds': 'm_right_selection', 'm_notes': 'Tree_selection'}
-    assert len(told) == 3, 'and no other'
+    pairs = sorted((sender.split()[1].removeprefix('QStandardItemModel_'), receiver.split()[0].removeprefix('QItemSelectionModel_'))
+                   for sender, receiver in told)
+    handed = [('m_files', f'm_{it}') for it in ('one_selection', 'own', 'three_selection', 'two_selection')]
+    assert pairs == [('m_feeds', 'm_right_selection'), *handed, ('m_notes', 'Tree_selection'), ('m_tasks', 'm_left_selection')], 'and no other'
 
 
 def test_a_connection_to_a_selection_is_to_that_of_its_view() -> None:
@@ -18,8 +18,15 @@ def test_a_connection_to_a_selection_is_to_that_of_its_view() -> None:
 
 def test_a_view_moves_its_own_selection_and_one_that_is_not_known_any() -> None:
     found = case('selections')
-    assert found.body('setCurrentIndex_2') == ['call this.to_QItemSelectionModel_m_left_selection.emit_selectionChanged("", "");']
+    assert found.body('setCurrentIndex_2', 'QTreeView_m_left') == ['call this.to_QItemSelectionModel_m_left_selection.emit_selectionChanged("", "");']
     assert found.body('setCurrentIndex', 'QAbstractItemView') == ['call this.to_QItemSelectionModel.emit_selectionChanged("", "");']
+
+
+def test_a_view_has_the_selection_that_it_was_handed() -> None:
+    found = case('selections')
+    for slot, selection in (('goTwo', 'm_one_selection'), ('goThree', 'm_own')):
+        view = found.body(slot)[0].split('.')[2]
+        assert found.body(view.split('(')[0], found.body(slot)[0].split('.')[1].removeprefix('to_')) == [f'call this.to_QItemSelectionModel_{selection}.emit_selectionChanged("", "");']
 
 
 def test_a_selection_is_told_by_its_own_table() -> None:

@@ -44,4 +44,13 @@ def test_a_view_is_told_of_its_own_selection() -> None:
 
 def test_connections_count_that_are_made_later() -> None:
     """What Qt made in an object is heard, wherever the connection to it stands."""
-    assert case('views').body('clearEditText') == ['call this.to_QLineEdit.emit_textChanged("");']
+    assert case('views').body('clearEditText', 'Typed_QComboBox_m_box')[-1] == 'call this.to_QLineEdit_m_box_line.emit_textChanged("");'
+
+
+def test_a_box_has_a_line_edit_of_its_own() -> None:
+    found = case('views')
+    assert found.body('clear', 'QComboBox_m_other') == ['call this.to_QLineEdit_m_other_line.emit_textChanged("");'], 'and no other is cleared'
+    told = {line.split('.')[1] for line in found.body('clear', 'QComboBox_m_third')}
+    assert told == {'to_QLineEdit_m_third_line', 'to_QLineEdit_m_line'}, 'also one that it was handed'
+    for line, box in (('m_box_line', 'Typed_QComboBox_m_box'), ('m_line', 'QComboBox_m_third')):
+        assert by_qt(f'QLineEdit_{line}', 'textChanged') == [f'{box} editTextChanged'], 'and no other box is told of it'

@@ -26,6 +26,32 @@ private:
     QTableWidget *m_other = new QTableWidget(this);
 };
 
+class Twins : public QWidget {
+    Q_OBJECT
+public:
+    Twins() {
+        m_one->setModel(m_files);
+        m_two->setModel(m_files);
+        m_two->setSelectionModel(m_one->selectionModel());
+        m_two->setSelectionModel(m_two->selectionModel());
+        m_three->setModel(m_files);
+        m_three->setSelectionModel(m_own);
+        connect(m_one->selectionModel(), &QItemSelectionModel::selectionChanged, this, &Twins::move);
+        connect(m_own, &QItemSelectionModel::selectionChanged, this, &Twins::move);
+    }
+    void goTwo() { m_two->setCurrentIndex(QModelIndex()); }
+    void goThree() { m_three->setCurrentIndex(QModelIndex()); }
+    void move() { emit moved(); }
+signals:
+    void moved();
+private:
+    QTreeView *m_one = new QTreeView(this);
+    QTreeView *m_two = new QTreeView(this);
+    QTreeView *m_three = new QTreeView(this);
+    QStandardItemModel *m_files = new QStandardItemModel(this);
+    QItemSelectionModel *m_own = new QItemSelectionModel(m_files, this);
+};
+
 class Panes : public QWidget {
     Q_OBJECT
 public:

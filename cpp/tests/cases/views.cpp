@@ -70,11 +70,21 @@ public:
     Typed() {
         connect(m_button, &QPushButton::clicked, m_box, &QComboBox::clearEditText);
         connect(m_box->lineEdit(), &QLineEdit::textChanged, this, &Typed::take);
+        connect(m_other->lineEdit(), &QLineEdit::textChanged, this, &Typed::take);
+        m_third->setLineEdit(m_line);
+        connect(m_third->lineEdit(), &QLineEdit::textChanged, this, &Typed::take);
+        connect(m_box, &QComboBox::editTextChanged, this, &Typed::take);
+        connect(m_third, &QComboBox::editTextChanged, this, &Typed::take);
     }
     void take() { emit taken(); }
+    void forget() { m_other->clear(); }
+    void fill() { m_third->clear(); }
 signals:
     void taken();
 private:
     QPushButton *m_button = new QPushButton(this);
     QComboBox *m_box = new QComboBox(this);
+    QComboBox *m_other = new QComboBox(this);
+    QComboBox *m_third = new QComboBox(this);
+    QLineEdit *m_line = new QLineEdit;
 };
