@@ -13,6 +13,7 @@ from .program import Key, Member, Program, Step, Wire
 from .qtmodel import EDITOR, Entry, QtModel, Written
 from .relations import Related
 from .replacing import Replacing
+from .sources import SOURCE, Sources
 
 
 class Calling:
@@ -27,7 +28,7 @@ class Calling:
         self._present: dict[str, bool] = {}
         self.deaths = Deaths(program, self)
         self.replacing = Replacing(program, qt, self)
-        self.editors, self.items = Editors(self), Items(self.objects)
+        self.editors, self.items, self.sources = Editors(self), Items(self.objects), Sources(self)
         # The classes to whose `destroyed` something is connected; complete once all wires are there.
         self.watched = Related(self.objects, {Element('class', self.objects.cls(e)) for c in self.whole.connects
                                               if c.signal.name.split('(')[0] == 'destroyed'
@@ -143,7 +144,7 @@ class Calling:
                 steps.append(step)
         for signal in entry.emits:
             if signal not in told:
-                steps += self._emit(cls, signal, lists)
+                steps += self._emit(element, signal, lists)
         for signal in entry.inside:
             steps += self._inside(element, signal)
         for function in entry.calls:
@@ -183,8 +184,8 @@ class Calling:
         key = self.program.property((self.whole.class_of(usr), one.name), owner, one.name, parameters[0].sort, self.program.signal(usr), None)
         return Step('set', key, None, (Term('parameter', 0),))
 
-    def _emit(self, cls: str, name: str, lists: list[Element]) -> list[Step]:
-        whole, program = self.whole, self.program
+    def _emit(self, element: Element, name: str, lists: list[Element]) -> list[Step]:
+        whole, program, cls = self.whole, self.program, self.objects.cls(element)
         if '::' not in name:
             usr = whole.signal(cls, name)
             if usr is None:
@@ -194,11 +195,11 @@ class Calling:
         class_name, signal = name.split('::')
         steps = []
         for key in whole.by_name.get(class_name, ()):
-            found = whole.signal(key, signal)
-            fitting = [it for it in lists if whole.is_a(self.objects.cls(it), key)]
+            found, models = whole.signal(key, signal), self.sources.of(element) if whole.is_named(key, MODEL) else []
+            fitting = [it for it in lists + models if whole.is_a(self.objects.cls(it), key)]
             if found is not None and fitting:
-                steps += [Step('call', program.emitter(found), it) for it in fitting]
-            elif found is not None and not whole.is_inside(key) and self.is_present(key):
+                steps += [Step('call', program.emitter(found), program.role(it)) for it in fitting]
+            elif found is not None and not models and not whole.is_inside(key) and self.is_present(key):
                 steps.append(Step('call', program.emitter(found), program.of_class(key)))
         return steps
 
@@ -325,6 +326,8 @@ class Calling:
         whole = self.whole
         if name.startswith('owned::'):
             return list(dict.fromkeys(t for o in sorted(self.owned(element)) for t in self.callbacks(o, name[7:])))
+        if name.startswith(f'{SOURCE}::'):
+            return list(dict.fromkeys(t for o in self.sources.of(element) for t in self.callbacks(o, name[len(SOURCE) + 2:])))
         if name.startswith(f'{EDITOR}::'):
             return list(dict.fromkeys(t for o in self.editors.all() for t in self.callbacks(o, name[len(EDITOR) + 2:])))
         if '::' in name:
@@ -366,6 +369,14 @@ class Calling:
         classes = whole.above(cls) + (whole.below(cls) if element.kind == 'class' else [])
         found = [whole.destructor_of[c] for c in dict.fromkeys(classes) if c in whole.destructor_of]
         return [self.program.function(usr) for usr in found if usr in whole.functions]
+
+    def others(self, one: Element, other: Element) -> list[Element]:
+        """The objects that one may be which isn't the other: of a class that has it, those of the classes below that haven't."""
+        own = self.objects.cls(other)
+        if one.kind != 'class' or not self.whole.is_a(own, one.key):
+            return [one]
+        return [Element('class', cls) for cls in self.whole.below(one.key)
+                if not self.whole.is_a(own, cls) and (self.objects.roles_of.get(cls) or self.whole.is_inside(cls))]
 
     def ends_of_qt(self, element: Element) -> list[tuple[Element, Key]]:
         """Qt's own destructors that run when an object dies and tell something that somebody is connected to, by the table."""

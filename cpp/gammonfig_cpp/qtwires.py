@@ -79,18 +79,10 @@ class QtWires:
         """The objects of a class that a function of an object was handed or returned."""
         for _, value in handed.given:
             for element in sorted(self.objects.elements(value)):
-                yield from (one for one in self._others(element, on) if self._is_named(one, name))
+                yield from (one for one in self.calling.others(element, on) if self._is_named(one, name))
 
     def _is_named(self, element: Element, name: str) -> bool:
         return self.whole.is_named(self.objects.cls(element), name)
-
-    def _others(self, sender: Element, receiver: Element) -> list[Element]:
-        """The objects that one may be which isn't the receiver: of a class that has it, those of the classes below that haven't."""
-        own = self.objects.cls(receiver)
-        if sender.kind != 'class' or not self.whole.is_a(own, sender.key):
-            return [sender]
-        return [Element('class', cls) for cls in self.whole.below(sender.key)
-                if not self.whole.is_a(own, cls) and (self.objects.roles_of.get(cls) or self.whole.is_inside(cls))]
 
     def _add(self, wire: QtWire, sender: Element, receiver: Element, heard: set[Key]) -> None:
         whole, program, to = self.whole, self.program, self.objects.cls(receiver)

@@ -5,6 +5,7 @@ void registerMade();
 void setUpInputs();
 void setUpTexts();
 void setUpModels();
+void setUpProxies();
 void setUpWindows();
 void setUpCore();
 void setUpChildren();
@@ -242,6 +243,7 @@ void registerAll()
     setUpInputs();
     setUpTexts();
     setUpModels();
+    setUpProxies();
     setUpWindows();
     setUpCore();
     setUpChildren();

@@ -45,35 +45,6 @@ private:
     int m_rows = 3;
 };
 
-class Proxy : public QSortFilterProxyModel
-{
-public:
-    bool filterAcceptsRow(int row, const QModelIndex &above) const override
-    {
-        recorder::called("filterAcceptsRow");
-        return QSortFilterProxyModel::filterAcceptsRow(row, above);
-    }
-    bool filterAcceptsColumn(int column, const QModelIndex &above) const override
-    {
-        recorder::called("filterAcceptsColumn");
-        return QSortFilterProxyModel::filterAcceptsColumn(column, above);
-    }
-    bool lessThan(const QModelIndex &left, const QModelIndex &right) const override
-    {
-        recorder::called("lessThan");
-        return QSortFilterProxyModel::lessThan(left, right);
-    }
-};
-
-Proxy *proxy(Scene &s)
-{
-    auto *it = new Proxy;
-    it->setDynamicSortFilter(true);
-    it->setSourceModel(s.filledModel());
-    it->sort(0);
-    return it;
-}
-
 template <class T> T *view(Scene &s)
 {
     auto *it = new T;
@@ -347,12 +318,6 @@ void setUpModels()
     SET_UP(QStandardItemModel, "below a plain proxy", auto *it = s.filledModel(); s.other(new QIdentityProxyModel)->setSourceModel(it); return it;)
     SET_UP(QStandardItemModel, "below a transposed proxy", auto *it = s.filledModel(); s.other(new QTransposeProxyModel)->setSourceModel(it); return it;)
     SET_UP(QStringListModel, "three rows", auto *it = new QStringListModel({"c", "a", "b"}); s.model = it; return it;)
-    SET_UP(QSortFilterProxyModel, "filtered", auto *it = proxy(s); it->setFilterFixedString("row"); s.model = it; return it;)
-    SET_UP(QSortFilterProxyModel, "of all", auto *it = proxy(s); s.model = it; return it;)
-    SET_UP(QSortFilterProxyModel, "of columns", auto *it = proxy(s); it->setFilterKeyColumn(-1); it->setFilterFixedString("1"); return it;)
-    SET_UP(QIdentityProxyModel, "plain", auto *it = new QIdentityProxyModel; it->setSourceModel(s.filledModel()); return it;)
-    SET_UP(QTransposeProxyModel, "plain", auto *it = new QTransposeProxyModel; it->setSourceModel(s.filledModel()); return it;)
-    SET_UP(QConcatenateTablesProxyModel, "plain", auto *it = new QConcatenateTablesProxyModel; it->addSourceModel(s.filledModel()); return it;)
     SET_UP(QFileSystemModel, "plain", return new QFileSystemModel;)
     SET_UP(QItemSelectionModel, "a row chosen", auto *it = new QItemSelectionModel(s.filledModel());
            it->setCurrentIndex(s.model->index(0, 0), QItemSelectionModel::ClearAndSelect | QItemSelectionModel::Rows); return it;)
