@@ -11,7 +11,11 @@ from .objects import FREE, Element
 from .owning import is_of_member
 from .program import Key, Program, Step, Wire
 from .qtmodel import KNOWN
+from .relations import Related
 from .targets import Targets
+
+# What processes events on a modal dialog alone, and what makes one modal.
+WHERE_MODAL, MAKING_MODAL = ('QProgressDialog', 'setValue'), ('setModal', 'setWindowModality', 'exec', 'open')
 
 
 class Effects:
@@ -21,6 +25,7 @@ class Effects:
         self.notify: dict[str, str] = {}
         self.connected: set[str] = set()
         self.bindable: list[tuple[Statement, Function]] = []
+        self._made_modal: Related | None = None
         # Members whose objects the object that has them owns.
         self.owning_members = {child.key for owner, child, _ in self.whole.owns if owner.kind == 'member'}
         self._kinds: dict[str, Callable[[Statement, Function], list[Step]]] = {
@@ -129,12 +134,21 @@ class Effects:
             return self._emission(statement, function)
         steps, known = self.calling.call_steps(statement, function, True)
         found = self.calling.qt.entry(statement.cls, statement.name) if statement.cls in self.whole.classes else None
-        if found is not None and found[1].modal and function.name != 'main':
+        if found is not None and found[1].modal and function.name != 'main' and self._runs_a_loop(statement, function):
             self.program.modal.setdefault(self.program.function(function.key), statement.place)
         name = f'{self.whole.name(statement.cls)}::{statement.name}'
         if not known and not statement.constant and statement.name not in KNOWN:
             self.program.silent[name] += 1
         return steps
+
+    def _runs_a_loop(self, statement: Statement, function: Function) -> bool:
+        """Whether a function of Qt that may run an event loop does so on its object: a progress dialog does where it was made modal."""
+        if (self.whole.name(statement.cls), statement.name) != WHERE_MODAL:
+            return True
+        if self._made_modal is None:
+            made = [(s, f) for f in self.whole.functions.values() for s in f.statements if s.kind == 'library' and s.name in MAKING_MODAL]
+            self._made_modal = Related(self.objects, [e for s, f in made for e in self.objects.elements(s.on, s.cls or f.cls)])
+        return self._made_modal.has_any(self.objects.elements(statement.on, statement.cls or function.cls))
 
     def _emission(self, statement: Statement, function: Function) -> list[Step]:
         usr, program = statement.function, self.program

@@ -23,7 +23,7 @@ from gammonfig_cpp.writing import Writing, Written  # noqa: E402
 
 # The modules of Qt that cases need beyond its core.
 MODULES = {**dict.fromkeys(('answers.cpp', 'visits.cpp'), 'Qt6Network'),
-           **dict.fromkeys(('ends.cpp', 'items.cpp', 'owners.cpp', 'selections.cpp', 'views.cpp', 'widgets.cpp'), 'Qt6Widgets')}
+           **dict.fromkeys(('ends.cpp', 'items.cpp', 'owners.cpp', 'progress.cpp', 'selections.cpp', 'views.cpp', 'widgets.cpp'), 'Qt6Widgets')}
 
 
 @functools.cache

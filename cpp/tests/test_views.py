@@ -42,6 +42,10 @@ def test_a_view_is_told_of_its_own_selection() -> None:
     assert 'showToday' not in found.text, 'a calendar shows its days in a view of its own'
 
 
+def test_a_progress_dialog_runs_an_event_loop_where_it_is_modal() -> None:
+    assert sorted(place.words for place in case('progress').linked.program.modal.values()) == ['dialog.exec()', 'm_modal->setValue(value)']
+
+
 def test_connections_count_that_are_made_later() -> None:
     """What Qt made in an object is heard, wherever the connection to it stands."""
     assert case('views').body('clearEditText', 'Typed_QComboBox_m_box')[-1] == 'call this.to_QLineEdit_m_box_line.emit_textChanged("");'
