@@ -8,8 +8,10 @@
 //   SPY_SECONDS  how long pokes are made at most (else 20)
 //   SPY_SEED     what the pokes begin from
 #include "poke.h"
+#include <QComboBox>
 #include <QCoreApplication>
 #include <QElapsedTimer>
+#include <QStandardItemModel>
 #include <QThread>
 #include <QTimer>
 #include <algorithm>
@@ -107,9 +109,11 @@ void writeOut(const char *end)
 }
 
 // Whether an object is one that Qt made for another of its own, as the buttons of a message box: Qt's name for it says so. What the
-// application put into a viewport or a stack of Qt's isn't.
+// application put into a viewport or a stack of Qt's isn't. The model of a combo box has no name: it is of just this class.
 bool isInner(const QObject *it)
 {
+    if (it->metaObject() == &QStandardItemModel::staticMetaObject && qobject_cast<const QComboBox *>(it->parent()))
+        return true;
     for (; it; it = it->parent()) {
         const QString name = it->objectName();
         if (name.startsWith("qt_") && name != "qt_scrollarea_viewport" && name != "qt_tabwidget_stackedwidget")
