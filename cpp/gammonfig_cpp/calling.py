@@ -235,9 +235,9 @@ class Calling:
         wires = [wire for wire in self.qt.table.wires if (wire.sender, wire.signal, wire.by) == (class_name, signal, '')]
         own = [self.whole.is_named(cls, wire.receiver) for wire in wires]
         for wire, is_own in zip(wires, own) if any(own) else ():
-            models = self.objects.inner.models(element) if wire.receiver == MODEL and self.objects.inner.of(element) else ()
-            found = self.callbacks(element, wire.member if is_own else f'{wire.receiver}::{wire.member}') if not models else \
-                [target for model in sorted(models) for target in self.callbacks(model, wire.member)]
+            others = self.sources.in_view(element, wire.receiver) if self.objects.inner.of(element) and not is_own else None
+            found = self.callbacks(element, wire.member if is_own else f'{wire.receiver}::{wire.member}') if others is None else \
+                [target for other in others for target in self.callbacks(other, wire.member)]
             steps += [Step('call', key, on, words=f'Qt connects {signal} to {wire.member}') for on, key in found]
         return steps
 

@@ -69,7 +69,14 @@ class Inner:
 
     def _around(self, holder: Element, kind: Kind) -> Element | None:
         own = [above for above in self.whole.above(self.objects.cls(holder)) if self.whole.is_inside(above) and self.whole.is_named(above, kind.around)]
-        return holder._replace(kind='class', key=own[-1]) if own else holder if holder.kind == 'site' else None
+        if own:
+            return holder._replace(kind='class', key=own[-1])
+        return holder if holder.kind == 'site' else self._only(holder)
+
+    def _only(self, holder: Element) -> Element | None:
+        """The object for which its class stands: where that has one role, once roles are told apart."""
+        below = [role for cls in self.whole.below(holder.key) for role in self.objects.roles_of.get(cls, ())]
+        return holder._replace(kind='site', key=below[0]) if len(below) == 1 else None
 
     def _places(self, handed: Handed, kind: Kind) -> set[Element | None]:
         """The objects that are handed another one."""

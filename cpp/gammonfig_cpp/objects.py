@@ -31,6 +31,8 @@ class Objects:
         self.held_by: dict[str, set[Element]] = defaultdict(set)
         self._elements: dict[tuple[Value, str], frozenset[Element]] = {}
         self._stands_for: dict[str, Element] = {}
+        self.role_of: dict[str, str] = {}
+        self.roles_of: dict[str, list[str]] = defaultdict(list)
         self.inner = Inner(self)
         self._solve()
         if self.inner.is_unclear():
@@ -284,8 +286,6 @@ class Objects:
             if site.cls in whole.classes:
                 apart = (site.cls, key) if self.roles == 'site' else (site.cls, site.within, site.hint)
                 groups[apart].append(key)
-        self.role_of: dict[str, str] = {}
-        self.roles_of: dict[str, list[str]] = defaultdict(list)
         for keys in groups.values():
             first = min(keys)
             self.roles_of[whole.sites[first].cls].append(first)

@@ -4,7 +4,7 @@ from __future__ import annotations
 from typing import Iterator
 
 from .calling import Calling
-from .inner import MODEL, OF_BOXES, SELECTION, VIEW
+from .inner import OF_BOXES, SELECTION, VIEW
 from .model import Handed
 from .objects import Element
 from .program import Key, Program, Wire
@@ -48,9 +48,8 @@ class QtWires:
             return [view]
         if any(self.whole.is_named(key, VIEW) for key in self.whole.by_name.get(name, ())) or not self.calling.items.may_reach(view, name):
             return []
-        if name == MODEL:
-            return sorted(self.objects.inner.models(view))
-        return [Element('class', key) for key in self.whole.by_name.get(name, ())]
+        found = self.calling.sources.in_view(view, name)
+        return found if found is not None else [Element('class', key) for key in self.whole.by_name.get(name, ())]
 
     def _of_classes(self, wire: QtWire, senders: set[Element]) -> Iterator[Pair]:
         """The classes of a wire that are there. What Qt makes itself, as the selection of a view, is there where somebody is connected

@@ -35,3 +35,14 @@ def test_a_selection_is_told_by_its_own_table() -> None:
     told = [wire.split('  //')[0] for wire in found.wires() if '-> QTableWidget' in wire]
     assert told == [f'wire QItemSelectionModel_{it}_selection selectionChanged(QString, QString) -> QTableWidget_{it} itemSelectionChanged() direct;'
                     for it in ('m_chosen', 'm_other')], 'and by no other'
+
+
+def test_a_view_hands_over_by_its_own_delegate_to_its_own_model() -> None:
+    found = case('selections')
+    rated, plain = (found.body('selectAll', f'QTreeView_{role}') for role in ('m_rated', 'm_plain'))
+    assert rated == ['call this.to_QItemSelectionModel_m_rated_selection.emit_currentChanged("", "");', 'call this.to_Rating.setModelData("", "", "");']
+    assert plain == ['call this.to_QItemSelectionModel_m_plain_selection.emit_currentChanged("", "");'], 'one of Qt\'s does nothing here'
+
+
+def test_the_only_list_of_a_program_is_that_one() -> None:
+    assert 'goList' not in case('selections').text, 'nobody is connected to its selection, and its items have a model of their own'

@@ -79,3 +79,33 @@ private:
     QStandardItemModel *m_feeds = new QStandardItemModel(this);
     QStandardItemModel *m_notes = new QStandardItemModel(this);
 };
+
+class Rating : public QStyledItemDelegate {
+    Q_OBJECT
+public:
+    void setModelData(QWidget *, QAbstractItemModel *, const QModelIndex &) const override { emit rated(); }
+signals:
+    void rated() const;
+};
+
+class Shelves : public QWidget {
+    Q_OBJECT
+public:
+    Shelves()
+    {
+        m_rated->setItemDelegate(m_rating);
+        connect(m_rated->selectionModel(), &QItemSelectionModel::currentChanged, this, &Shelves::move);
+        connect(m_plain->selectionModel(), &QItemSelectionModel::currentChanged, this, &Shelves::move);
+    }
+    void goRated() { m_rated->selectAll(); }
+    void goPlain() { m_plain->selectAll(); }
+    void goList() { m_list->selectAll(); }
+    void move() { emit moved(); }
+signals:
+    void moved();
+private:
+    Rating *m_rating = new Rating;
+    QTreeView *m_rated = new QTreeView(this);
+    QTreeView *m_plain = new QTreeView(this);
+    QListWidget *m_list = new QListWidget(this);
+};
