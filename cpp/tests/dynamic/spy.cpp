@@ -11,6 +11,7 @@
 #include <QComboBox>
 #include <QCoreApplication>
 #include <QElapsedTimer>
+#include <QLineEdit>
 #include <QStandardItemModel>
 #include <QThread>
 #include <QTimer>
@@ -109,10 +110,12 @@ void writeOut(const char *end)
 }
 
 // Whether an object is one that Qt made for another of its own, as the buttons of a message box: Qt's name for it says so. What the
-// application put into a viewport or a stack of Qt's isn't. The model of a combo box has no name: it is of just this class.
+// application put into a viewport or a stack of Qt's isn't. The model and the line edit of a combo box have no names: they are of just
+// these classes.
 bool isInner(const QObject *it)
 {
-    if (it->metaObject() == &QStandardItemModel::staticMetaObject && qobject_cast<const QComboBox *>(it->parent()))
+    const QMetaObject *own = it->metaObject();
+    if ((own == &QStandardItemModel::staticMetaObject || own == &QLineEdit::staticMetaObject) && qobject_cast<const QComboBox *>(it->parent()))
         return true;
     for (; it; it = it->parent()) {
         const QString name = it->objectName();
