@@ -15,7 +15,7 @@ TOLD = re.compile(rb"([^\n]*?):(\d+):\d+: (?:error|warning|note): ")
 def program_of(name: str) -> str:
     """The file of a program, where a folder is named that has one, as `read` writes it."""
     inside = os.path.join(name, PROGRAM)
-    return inside if os.path.isfile(inside) else name
+    return inside if name and os.path.isfile(inside) else name
 
 
 def beside(name: str) -> str | None:

@@ -18,6 +18,8 @@ LARGEST_INPUT = 67_108_864
 # So many bytes are asked for at a time.
 PIECE = 1 << 20
 STANDARD_INPUT = "-"
+# An empty name, as an unset variable makes one.
+EMPTY = '""'
 
 
 class TextFault(Fault):
@@ -46,7 +48,7 @@ class Reader:
                     os.close(file)
         except (OSError, ValueError) as fault:
             reason = (getattr(fault, "strerror", None) or str(fault)).lower()
-            raise TextFault(f"{shown(name)}: this file can't be read: {reason}") from None
+            raise TextFault(f"{shown(name) or EMPTY}: this file can't be read: {reason}") from None
 
     def take(self, file: int, name: str) -> None:
         """Refuses what was read before and gives its bytes only once: its end would look like an empty text."""

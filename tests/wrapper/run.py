@@ -127,6 +127,7 @@ class Tests:
     def refused(self):
         """What is no file, no text or no command line is refused before anything runs."""
         self.check(["certify", "none.gf"], 2, "", "none.gf: this file can't be read")
+        self.check(["certify", ""], 2, "", '"": this file can\'t be read')
         self.check(["certify", "cache"], 2, "", "cache: this file can't be read")
         self.check(["certify", "parted.gf"], 2, "", "parted.gf:6: a line `%%`")
         for words in (["certify", "app.gf", "app.gfc"], ["run", "app.gf", "session.gfs"], ["run", "--unchecked", "257", "app.gf"]):
