@@ -58,8 +58,9 @@ class Front:
         if given == ["--version"]:
             return self.version()
         if len(given) == 2 and (given[0] == "help" or given[1] in ("--help", "-h")):
-            command = words.command_of(given[0] if given[1] in ("--help", "-h") else given[1])
-            return self.write(pages().command_help(command)) if command else self.usage(given)
+            word = given[0] if given[1] in ("--help", "-h") else given[1]
+            command = words.command_of(word)
+            return self.write(pages().command_help(command)) if command else self.usage(given, words.unknown([word]))
         if given[:1] == ["read"]:
             return self.read(given[1:])
         try:
@@ -111,7 +112,7 @@ class Front:
             say("this is no command: " + " ".join(map(texts.shown, given)))
         if reason:
             say(reason)
-        write_to(2, (pages().usage(command) if command else pages().help_text()).encode())
+        write_to(2, (pages().usage(command) if command else pages().words_told() if given else pages().help_text()).encode())
         raise Ended(1)
 
     def read(self, given: list[str]) -> None:

@@ -41,9 +41,12 @@ def help_text() -> str:
     return f"{ABOUT}\n{rows((f'./gammonfig {it.example}', it.told) for it in COMMANDS)}\n{MORE}"
 
 
-def form(command: Command) -> str:
-    """The command line of a command."""
-    return " ".join(["./gammonfig", command.word, *(f"[{it.shown()}]" for it in command.options), *texts(command)])
+def form(command: Command, before: str = "") -> str:
+    """The command line of a command, with an option and its value in one line."""
+    pieces = [f"{before}./gammonfig", command.word, *(f"[{it.shown()}]" for it in command.options), *texts(command)]
+    whole = " ".join(it.replace(" ", "\0") for it in pieces)
+    lines = textwrap.wrap(whole, WIDTH, subsequent_indent="    ", break_on_hyphens=False)
+    return "".join(f"{it}\n" for it in lines).replace("\0", " ")
 
 
 def texts(command: Command) -> list[str]:
@@ -51,7 +54,7 @@ def texts(command: Command) -> list[str]:
     if not command.texts:
         return []
     least = len(command.texts) if command.least is None else command.least
-    names = [it.upper() for it in command.texts]
+    names = [it.upper() + (".." if command.parts and it == "program" else "") for it in command.texts]
     behind = " ".join(f"[{it}" for it in names[least:]) + "]" * len(names[least:])
     whole = " ".join(it for it in (" ".join(names[:least]), behind) if it) + (".." if command.many else "")
     # Texts may come from standard input in place of all files.
@@ -59,16 +62,21 @@ def texts(command: Command) -> list[str]:
 
 
 def usage(command: Command) -> str:
-    return f"usage: {form(command)}\n`./gammonfig help {command.word}` says more\n"
+    return f"{form(command, 'usage: ')}`./gammonfig help {command.word}` says more\n"
+
+
+def words_told() -> str:
+    return "`./gammonfig help` has all words\n"
 
 
 def command_help(command: Command) -> str:
-    made = f"{form(command)}\n{command.told[0].upper()}{command.told[1:]}.\n"
+    made = f"{form(command)}{command.told[0].upper()}{command.told[1:]}.\n"
     if command.options:
         made += "\n" + rows((it.shown(), it.told) for it in command.options)
     if command.program not in (FRONT, READER):
         held = f"{command.texts[0]}, any number of them" if command.numbered else ", ".join(f"a {it}" for it in command.texts)
-        made += f"\nTexts: {held}, a file each; `-` is standard input. Without files they come\nfrom standard input, with a line `%%` between two of them.\n"
+        between = ", with a line `%%`\nbetween two of them" if "," in held else ""
+        made += f"\nFiles: {held}; `-` is standard input, which is also read without files{between}.\n"
     made += f"\n{command.more}" if command.more else ""
     if command.word == "verdict" and (known := rules.rows()):
         made += "\nRules (docs/rules.md says more):\n" + rows(known)

@@ -2,6 +2,7 @@
 help, completion and the table of docs/commands.md are made from it, and words are taken apart by it."""
 from __future__ import annotations
 
+from texts import shown
 from told import Fault
 
 MOST_STEPS = 9223372036854775807
@@ -14,6 +15,8 @@ FRONT = ""
 READER = "cpp/read"
 # How the names of files end that may be parts of one program.
 PART = ".gf"
+# What the front answers to where nothing else is said.
+ALONE = ("--help", "--version")
 
 
 class Option:
@@ -55,7 +58,7 @@ PLACES = Option("--places", "tells places by this file, and without it by NAME.p
 CONTEXT = Option("--context", "with N lines of the file around each place", "N", MOST_CONTEXT, group="form", here=True)
 WITNESS = Option("--witness", "writes scripts that show cycles and paths, and tells which are shown", here=True)
 OUT = Option("--out", "the folder for these scripts, the current one without it", "DIR", here=True)
-USAGE = (1, "the words are no command, or something can't be read or written")
+USAGE = (1, "the words are no command, standard input can't be read, or the output can't be written")
 REFUSED = (2, "a text is refused, or a file can't be read")
 INVALID = (3, "the certificate isn't valid")
 
@@ -154,22 +157,52 @@ def command_of(word: str) -> Command | None:
     return next((it for it in COMMANDS if it.word == word), None)
 
 
+def near(word: str, known: list[str]) -> str:
+    """Which of the known words a wrong one was most likely meant to be, for the end of a sentence."""
+    import difflib
+
+    found = difflib.get_close_matches(word, known, 1)
+    return f": did you mean `{found[0]}`?" if found else ""
+
+
+def unknown(words: list[str]) -> str:
+    """Why there is no command of these words."""
+    if not words:
+        return ""
+    if words[0] in ALONE and len(words) > 1:
+        return f"`{words[0]}` stands alone"
+    if words[0].startswith("-"):
+        return f"a word comes first, and `{shown(words[0])}` is none: options stand behind the word"
+    return f"there is no word `{shown(words[0])}`" + near(words[0], [*(it.word for it in COMMANDS), *ALONE])
+
+
+def no_option(command: Command, name: str) -> str:
+    """Why a command has no such option."""
+    begin, sign, value = name.partition("=")
+    if sign and command.option(begin):
+        return f"a value stands behind a blank: `{begin} {shown(value)}`"
+    return f"`{command.word}` has no option `{shown(name)}`" + near(name, [it.name for it in command.options])
+
+
 def parse(words: list[str]) -> Call:
     """Takes the words apart."""
     command = command_of(words[0]) if words else None
     if not command:
-        raise NoCommand
+        raise NoCommand(unknown(words))
     call, rest = Call(command), words[1:]
     while rest and rest[0].startswith("-") and rest[0] != "-":
         name = rest.pop(0)
         option = command.option(name)
         if not option:
-            raise NoCommand
+            raise NoCommand(no_option(command, name))
         take(call, option, rest)
     if call.has(WITNESS.name) and call.has("--accept-all"):
         raise Excluded(f"`--accept-all` and `{WITNESS.name}` exclude one another: `{call.command.word}` takes one of them")
     if call.has(OUT.name) and not call.has(WITNESS.name):
         raise Excluded(f"`{OUT.name}` is for what `{WITNESS.name}` writes: `{call.command.word}` takes it beside that alone")
+    late = next((it for it in rest if command.option(it)), None)
+    if late:
+        raise NoCommand(f"options stand before files: `{late}` is behind `{shown(rest[0])}`")
     call.files = rest
     call.texts = texts_of(call)
     return call
@@ -177,16 +210,20 @@ def parse(words: list[str]) -> Call:
 
 def take(call: Call, option: Option, rest: list[str]) -> None:
     """Takes an option and its value. They stand in the order of the table, but where that says nothing."""
-    is_again = call.has(option.name) and not option.repeats
-    if is_again or is_late(call, option):
-        raise NoCommand
+    if call.has(option.name) and not option.repeats:
+        raise NoCommand(f"`{option.name}` stands there twice")
+    early = taken_before(call, option)
+    if early:
+        raise NoCommand(f"`{option.name}` stands before `{early}`")
     other = next((it.name for it in call.command.options if option.group and it.group == option.group and call.has(it.name)), None)
     if other:
         raise Excluded(f"`{other}` and `{option.name}` exclude one another: `{call.command.word}` takes one of them")
     value = ""
     if option.value:
-        if not rest or (option.most and not is_number(rest[0], option.most)) or (option.text and not rest[0]):
-            raise NoCommand
+        if option.most and not (rest and is_number(rest[0], option.most)):
+            raise NoCommand(f"behind `{option.name}` comes a number from 1 to {option.most}")
+        if not rest or (option.text and not rest[0]):
+            raise NoCommand(f"behind `{option.name}` comes {option.value}")
         value = rest.pop(0)
     call.values[option.name] = value
     if option.first:
@@ -195,11 +232,12 @@ def take(call: Call, option: Option, rest: list[str]) -> None:
         call.words += [option.name, value] if option.value else [option.name]
 
 
-def is_late(call: Call, option: Option) -> bool:
-    """Whether a number stands before this option that the program takes behind it."""
+def taken_before(call: Call, option: Option) -> str | None:
+    """An option that was taken before this one, and that the program takes behind it, since it takes a number."""
     place = call.command.options.index(option)
     numbered = any(it.most and not it.here for it in call.command.options)
-    return numbered and not option.first and any(call.has(it.name) for it in call.command.options[place + 1 :])
+    later = (it.name for it in call.command.options[place + 1 :] if call.has(it.name))
+    return next(later, None) if numbered and not option.first else None
 
 
 def is_number(digits: str, most: int) -> bool:
@@ -211,9 +249,13 @@ def is_number(digits: str, most: int) -> bool:
 def wrong_count(call: Call, texts: list[str]) -> str:
     """Why the files are too few or too many for these texts."""
     command, count = call.command, len(call.files)
-    told = f"`{command.word}` takes {', '.join(f'a {it}' for it in texts) or 'no file'}, and {count} {'file is' if count == 1 else 'files are'} named"
-    without = "certificate" in texts and UNCHECKED in command.options and count == len(texts) - 1
-    return told + (f"; without a certificate it is `{command.word} {UNCHECKED.name} {MOST_NESTED}`" if without else "")
+    word = f"{command.word} {UNCHECKED.name}" if call.has(UNCHECKED.name) else command.word
+    given = "word" if command.program == FRONT else "file"
+    told = f"`{word}` takes {', '.join(f'a {it}' for it in texts) or f'no {given}'}, and {count} {f'{given} is' if count == 1 else f'{given}s are'} named"
+    if "certificate" in texts and UNCHECKED in command.options and count == len(texts) - 1:
+        return f"{told}; without a certificate it is `{command.word} {UNCHECKED.name} {MOST_NESTED}`"
+    parts = not command.parts and sum(it.endswith(PART) for it in call.files) > 1
+    return f"{told}; `verdict` alone takes a program in several files" if parts else told
 
 
 def texts_of(call: Call) -> list[str]:
@@ -224,7 +266,7 @@ def texts_of(call: Call) -> list[str]:
         # Several files are one program, and whichever isn't one of them is the certificate.
         texts = ["program" if it.endswith(PART) else "certificate" for it in call.files]
         if texts.count("certificate") > 1:
-            raise NoCommand
+            raise NoCommand(f"what doesn't end with `{PART}` is the certificate: {texts.count('certificate')} are named")
         if call.has(PLACES.name):
             raise Excluded(f"`{PLACES.name}` is for a program in one file: {texts.count('program')} are named")
         return texts
@@ -232,10 +274,12 @@ def texts_of(call: Call) -> list[str]:
         return [f"text {it + 1}" for it in range(count)]
     if (count > len(texts) and not command.many) or (0 < count < (command.least or len(texts))):
         raise NoCommand(wrong_count(call, texts))
-    if any(it.text == "list" and call.has(it.name) for it in command.options) and not count:
-        raise NoCommand
+    listed = next((it.name for it in command.options if it.text == "list" and call.has(it.name)), None)
+    if listed and not count:
+        raise NoCommand(f"behind `{listed} LIST` comes the program's file")
     if call.has("--rules") and (count or len(call.values) > 1):
-        raise NoCommand
-    if command.word == "view" and count > (1 if call.has("--mermaid") else 2 if call.has("--html") else count):
-        raise NoCommand
+        raise NoCommand("`--rules` stands alone")
+    most = 1 if call.has("--mermaid") else 2 if call.has("--html") else count
+    if command.word == "view" and count > most:
+        raise NoCommand("a diagram is of one trace" if most == 1 else "a page is of one trace and its script")
     return (texts + texts[-1:] * count)[:count]

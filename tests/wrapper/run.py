@@ -124,6 +124,32 @@ class Tests:
         self.check(words, 2, "refused 16 line 3\n", "wrong.gfs:3:1: error: `cal` begins no event\n", "did you mean `call`?\n")
         self.check(["check", "app.gf", "flat.gfc"], 3, "no 76\n", "flat.gfc:12:1: error: line 12 of the certificate gives `Lamp.dim(int)` the rank 2, and the bound is 2")
 
+    def reasons(self):
+        """What is no command is told with why."""
+        for told, given in {
+            "there is no word `certfy`: did you mean `certify`?": "certfy app.gf",
+            "there is no word `version`: did you mean `--version`?": "version",
+            "there is no word `rum`: did you mean `run`?": "help rum",
+            "a word comes first, and `--wide` is none": "--wide certify app.gf",
+            "`--version` stands alone": "--version app.gf",
+            "`certify` has no option `--wides`: did you mean `--wide`?": "certify --wides app.gf",
+            "a value stands behind a blank: `--error cycle`": "verdict --error=cycle app.gf",
+            "options stand before files: `--json` is behind `app.gf`": "verdict app.gf --json",
+            "`--wide` stands there twice": "certify --wide --wide app.gf",
+            "`--unchecked` stands before `--steps`": "run --steps 9 --unchecked 9 app.gf session.gfs",
+            "behind `--unchecked` comes a number from 1 to 256": "run --unchecked app.gf session.gfs",
+            "behind `--error` comes RULE,..": "verdict --error",
+            "behind `--accept LIST` comes the program's file": "verdict --accept app.gf",
+            "`--rules` stands alone": "verdict --rules app.gf",
+            "`run --unchecked` takes a program, a script, and 3 files are named": "run --unchecked 9 app.gf app.gfc session.gfs",
+            "`verdict` alone takes a program in several files": "certify app.gf cycle.gf",
+            "what doesn't end with `.gf` is the certificate: 2 are named": "verdict app.gf cycle.gf app.gfc flat.gfc",
+            "a diagram is of one trace": "view --mermaid trace session.gfs",
+            "a page is of one trace and its script": "view --html trace session.gfs trace",
+            "`status` takes no word, and 1 word is named": "status now",
+        }.items():
+            self.check(given.split(), 1, USAGE, told)
+
     def refused(self):
         """What is no file, no text or no command line is refused before anything runs."""
         self.check(["certify", "none.gf"], 2, "", "none.gf: this file can't be read")
@@ -136,6 +162,7 @@ class Tests:
         for words in (["run", "--steps", "0"], ["certify", "--fast"], ["draw", "app.gf"], ["graph", "--json", "app.gf", "app.gf"]):
             self.check(words, 1, USAGE, "this is no command")
         self.check([], 1, USAGE, "a runtime of signals and slots")
+        self.reasons()
         for word, one, other in ("verdict", "--json", "--sarif"), ("verdict", "--sarif", "--accept-all"), ("verdict", "--accept-all", "--witness"), ("view", "--html", "--plain"), ("session", "--tap", "--record"):
             told = f"gammonfig: `{one}` and `{other}` exclude one another: `{word}` takes one of them\n"
             found = self.place.run([word, one, other, "app.gf"])
@@ -486,7 +513,7 @@ class Tests:
         self.check(["import", "--effects", "b.effects", "a.json"], 2, "", "b.effects:3: `A` has no property `name`")
         self.check(["import", "--effects", "a.effects", "a.json", "b.json"], 2, "", "b.json:2:")
         self.check(["import", "--effects", "none.effects", "a.json"], 2, "", "none.effects: this file can't be read")
-        self.check(["import", "a.json", "--effects", "a.effects"], 2, "", "--effects: this file can't be read")
+        self.check(["import", "a.json", "--effects", "a.effects"], 1, USAGE, "options stand before files")
         for words in (["--effects"], ["--effects", ""], ["--effects", "a.effects", "--effects", "b.effects"], ["--lean", "--help"]):
             self.check(["import", *words], 1, USAGE, "this is no command")
 
