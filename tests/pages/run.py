@@ -108,7 +108,7 @@ def run_jobs(place, count):
             for file_name, text in (("app.gf", program), ("accepted.txt", accepted), ("Makefile", blocks["Makefile"])):
                 with open(f"{folder}/{file_name}", "w", encoding="utf-8") as file:
                     file.write(text)
-            environment = {**place.environment, "GAMMONFIG": built.ROOT}
+            environment = {**place.environment, "GAMMONFIG_HOME": built.ROOT}
             found = subprocess.run(["bash", "-c", job], cwd=folder, env=environment, capture_output=True, text=True, stdin=subprocess.DEVNULL, timeout=built.PATIENCE)
             count.check((found.returncode == 0) == passes, lambda: f"{name}, {number}: {found}")
             left = {it: os.path.getsize(f"{folder}/{it}") for it in os.listdir(folder)}
