@@ -17,7 +17,7 @@ import case_files
 EDITORS = f"{built.ROOT}/editors"
 GRAMMAR = f"{EDITORS}/vscode/syntaxes/gammonfig.tmLanguage.json"
 TYPES = {"int", "bool", "QString", "QObject"}
-OF_CERTIFICATES = {"certificate", "bound"}
+OF_CERTIFICATES = {"certificate", "bound", "settling", "round"}
 
 
 def text(path):

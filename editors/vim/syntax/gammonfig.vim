@@ -11,7 +11,7 @@ syntax keyword gammonfigConstant true false null this
 syntax keyword gammonfigModifier const auto direct queued unique single
 syntax keyword gammonfigType int bool QString QObject
 " Words that begin the other events of a script, or a line of a certificate, and are names elsewhere.
-syntax match gammonfigEvent /^\s*\zs\(loop\|turn\|new\|adopt\|move\|bind\|block\|unblock\|certificate\|bound\)\>/
+syntax match gammonfigEvent /^\s*\zs\(loop\|turn\|new\|adopt\|move\|bind\|block\|unblock\|certificate\|bound\|settling\|round\)\>/
 " A name, with which a statement may begin.
 syntax match gammonfigGroup /\(^\|[;{}]\)\s*\zs\(group\)\ze\s*{/
 syntax match gammonfigNumber /\<\d\+\>/
