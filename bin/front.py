@@ -13,6 +13,8 @@ import words
 from told import NAME, Ended, Fault, say, write, write_to
 
 VERSION = "0.4.0"
+# What asks for the help of a word, wherever it stands behind it.
+HELP = frozenset(("--help", "-h"))
 
 
 class Streams:
@@ -57,8 +59,9 @@ class Front:
             return self.write(pages().help_text())
         if given == ["--version"]:
             return self.version()
-        if len(given) == 2 and (given[0] == "help" or given[1] in ("--help", "-h")):
-            word = given[0] if given[1] in ("--help", "-h") else given[1]
+        asked = not HELP.isdisjoint(given[1:])
+        if asked or len(given) == 2 and given[0] == "help":
+            word = given[0] if asked else given[1]
             command = words.command_of(word)
             return self.write(pages().command_help(command)) if command else self.usage(given, words.unknown([word]))
         if given[:1] == ["read"]:

@@ -162,6 +162,7 @@ class Tests:
         for words in (["run", "--steps", "0"], ["certify", "--fast"], ["draw", "app.gf"], ["graph", "--json", "app.gf", "app.gf"]):
             self.check(words, 1, USAGE, "this is no command")
         self.check([], 1, USAGE, "a runtime of signals and slots")
+        self.check(["run", "--wide", "app.gf", "--help"], 0, self.place.run(["help", "run"])[1])
         self.reasons()
         for word, one, other in ("verdict", "--json", "--sarif"), ("verdict", "--sarif", "--accept-all"), ("verdict", "--accept-all", "--witness"), ("view", "--html", "--plain"), ("session", "--tap", "--record"):
             told = f"gammonfig: `{one}` and `{other}` exclude one another: `{word}` takes one of them\n"
@@ -514,7 +515,7 @@ class Tests:
         self.check(["import", "--effects", "a.effects", "a.json", "b.json"], 2, "", "b.json:2:")
         self.check(["import", "--effects", "none.effects", "a.json"], 2, "", "none.effects: this file can't be read")
         self.check(["import", "a.json", "--effects", "a.effects"], 1, USAGE, "options stand before files")
-        for words in (["--effects"], ["--effects", ""], ["--effects", "a.effects", "--effects", "b.effects"], ["--lean", "--help"]):
+        for words in (["--effects"], ["--effects", ""], ["--effects", "a.effects", "--effects", "b.effects"]):
             self.check(["import", *words], 1, USAGE, "this is no command")
 
     def install(self):
