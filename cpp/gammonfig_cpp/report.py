@@ -60,12 +60,14 @@ def checker(here: str) -> list[str]:
     """The words that run the checker: GAMMONFIG names it, else it stands beside this package."""
     named = os.environ.get('GAMMONFIG')
     path = named or os.path.join(os.path.dirname(os.path.dirname(here)), 'gammonfig')
-    if not os.access(path, os.X_OK):
+    if not os.path.isfile(path) or not os.access(path, os.X_OK):
         raise ReadError(f'{path}: the checker isn\'t there' + ('' if named else ': GAMMONFIG names it'))
     return [path]
 
 
 USAGE = 1
+# What the reader's own steps go by, in the words of the checker's.
+BY = {'queued': 'wire', 'direct': 'statement'}
 
 
 def judge(program: str, places: Places, wide: bool = False) -> Verdict:
@@ -141,11 +143,10 @@ class Teller:
             lines.append(f'{verdict.more} of them aren\'t shown')
         return '\n'.join(lines) + '\n'
 
-    @staticmethod
-    def _head(spot: Spot) -> str:
+    def _head(self, spot: Spot) -> str:
         if spot.file:
             return f'{spot.file}:{spot.line}:{spot.column}'
-        return f'app.gf:{spot.program[0]}:{spot.program[1]}' if spot.program else '(Qt)'
+        return f'{self.program}:{spot.program[0]}:{spot.program[1]}' if spot.program else '(Qt)'
 
     def _step(self, step: StepTold, before: str = '') -> list[str]:
         what = f'{before}`{step.from_}` leads {"later " if step.is_later else ""}to `{step.to}`'
@@ -166,31 +167,31 @@ class Teller:
         first, last = max(1, spot.line - self.context), min(len(text), spot.line + self.context)
         return [f'{">" if at == spot.line else " "} {at:5} | {text[at - 1]}' for at in range(first, last + 1)]
 
-    # JSON
+    # JSON, as docs/verdict.schema.json has it
 
-    @staticmethod
-    def _spot(spot: Spot) -> dict[str, object]:
-        told: dict[str, object] = {}
-        if spot.file:
-            told |= {'file': spot.file, 'line': spot.line, 'column': spot.column, 'words': spot.words}
-            if spot.conditions:
-                told['conditions'] = list(spot.conditions)
+    def _spot(self, spot: Spot) -> dict[str, object]:
+        judged: dict[str, object] = {'file': self.program}
         if spot.program:
-            told['program'] = {'line': spot.program[0], 'column': spot.program[1]}
-        return told
+            judged |= {'line': spot.program[0], 'column': spot.program[1]}
+        if not spot.file:
+            return judged
+        told: dict[str, object] = {'file': spot.file, 'line': spot.line, 'column': spot.column, 'words': spot.words}
+        if spot.conditions:
+            told['conditions'] = list(spot.conditions)
+        return told | ({'program': judged} if spot.program else {})
 
     def _steps(self, steps: list[StepTold]) -> list[dict[str, object]]:
-        return [self._spot(s.spot) | {'from': s.from_, 'to': s.to, 'by': s.by, 'message': s.message} | ({'queued': True} if s.is_later else {})
-                for s in steps]
+        return [self._spot(s.spot) | {'from': s.from_, 'to': s.to, 'by': BY.get(s.by, s.by), 'message': s.message}
+                | ({'queued': True} if s.is_later else {}) for s in steps]
 
     def json(self, verdict: Verdict) -> str:
         findings: list[dict[str, object]] = []
         for finding in verdict.findings:
-            told: dict[str, object] = {'rule': finding.rule, 'number': finding.number, 'severity': finding.severity, 'message': finding.message}
-            told |= {name: text for name, text in (('help', finding.help), ('note', finding.note)) if text}
+            told: dict[str, object] = {'rule': finding.rule, 'severity': finding.severity, 'message': finding.message}
+            told |= {name: it for name, it in (('number', finding.number), ('help', finding.help), ('note', finding.note)) if it}
             told |= self._spot(finding.spot) | {'chain': self._steps(finding.chain)}
             findings.append(told | ({'also': self._steps(finding.also)} if finding.also else {}))
-        return json.dumps({'findings': findings, 'more': verdict.more, 'accepted': verdict.accepted}, indent=1, ensure_ascii=False) + '\n'
+        return json.dumps({'version': 1, 'findings': findings, 'more': verdict.more, 'accepted': verdict.accepted}, indent=1, ensure_ascii=False) + '\n'
 
     # SARIF
 

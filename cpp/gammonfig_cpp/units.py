@@ -125,13 +125,16 @@ def from_file(word: str, folder: str) -> list[str]:
 
 def units_of(given: str, roots: list[str], only: str | None = None) -> list[Unit]:
     """The units of a build whose sources lie below one of the roots, in the order of the list, each once."""
-    path = commands_file(given)
-    units: dict[str, Unit] = {}
+    path, units = commands_file(given), dict[str, Unit]()
+    try:
+        wanted = re.compile(only or '')
+    except re.error as wrong:
+        raise ReadError(f'--only {only}: this is no regular expression: {wrong}') from wrong
     for entry in entries_of(path):
         folder = os.path.join(os.path.dirname(os.path.abspath(path)), str(entry['directory']))
         source = os.path.realpath(os.path.join(folder, str(entry['file'])))
         inside = any(source.startswith(root + os.sep) for root in roots)
-        if not inside or is_generated(source) or not source.endswith(SOURCES) or (only and not re.search(only, source)):
+        if not inside or is_generated(source) or not source.endswith(SOURCES) or not wanted.search(source):
             continue
         units.setdefault(source, Unit(source, flags_of(words_of(entry, path), folder)))
     if not units:

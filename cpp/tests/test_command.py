@@ -7,6 +7,7 @@ import shutil
 import stat
 import subprocess
 from dataclasses import replace
+from typing import Any
 
 import pytest
 from reading import CASES, HERE, flags
@@ -129,6 +130,44 @@ def test_a_verdict_in_lines_of_cpp(written: pathlib.Path) -> None:
     told = json.loads(run(written, '--verdict', 'out', '--json', GAMMONFIG=named).stdout)
     step = told['findings'][0]['chain'][0]
     assert (step['file'], step['line'], step['conditions']) == ('a.cpp', 13, ['if `m_dial`'])
+
+
+def schema_of(name: str) -> dict[str, Any]:
+    path = pathlib.Path(__file__).parents[2] / 'docs/verdict.schema.json'
+    found: dict[str, Any] = json.loads(path.read_text())
+    return found['$defs'][name] if name else found  # type: ignore[no-any-return]
+
+
+def check_form(told: dict[str, Any], schema: dict[str, Any]) -> None:
+    """The names are those of the schema, and what it requires is there."""
+    assert set(schema['required']) <= set(told) <= set(schema['properties'])
+
+
+def test_json_has_the_form_of_the_checkers(written: pathlib.Path) -> None:
+    """A step that stands in the program alone has its file; a rule without a number has none."""
+    line = line_of(written, 'delete this;')
+    for rule, number, at in ('destroy-path', 75, line), ('queued-cycle', 0, 1):
+        named = checker(written, at, rule)
+        if not number:
+            path = pathlib.Path(named)
+            path.write_text(path.read_text().replace('"number": 75, ', ''))
+        told = json.loads(run(written, '--verdict', 'out', '--json', GAMMONFIG=named).stdout)
+        check_form(told, schema_of(''))
+        for finding in told['findings']:
+            check_form(finding, schema_of('finding'))
+            assert finding.get('number', 0) in (number, 0) and finding.get('number') != 0
+            for step in finding['chain']:
+                check_form(step, schema_of('step'))
+                check_form(step.get('program', {'file': ''}), schema_of('spot'))
+                assert step['by'] in schema_of('step')['properties']['by']['enum']
+
+
+def test_words_that_are_wrong(written: pathlib.Path) -> None:
+    for words, told, named in ((('--verdict', 'out', '--json', '--sarif'), 'not allowed with', ''),
+                               (('-p', '.', '--only', '['), '--only [: this is no regular expression', ''),
+                               (('--verdict', 'out'), 'the checker isn\'t there', str(written))):
+        done = run(written, *words, **({'GAMMONFIG': named} if named else {}))
+        assert done.returncode == 2 and told in done.stderr and 'Traceback' not in done.stderr
 
 
 def test_an_object_that_deletes_its_own(written: pathlib.Path, tmp_path: pathlib.Path) -> None:
