@@ -93,9 +93,9 @@ class Pruning:
         program.members = {key: m for key, m in program.members.items() if key in live}
 
     def _is_live(self, member: Member, live: set[Key], heard: set[Key]) -> bool:
-        """Whether a member may lead to something."""
+        """Whether a member may lead to something: also to what the event loop that it runs delivers."""
         if member.kind == 'slot':
-            return bool(member.steps)
+            return bool(member.steps) or member.key in self.program.modal
         if member.kind == 'property':
             return member.notify in live or any(member.key in b.sources or member.key == b.target for b in self.program.bound)
         return member.key in heard

@@ -46,6 +46,12 @@ def test_a_progress_dialog_runs_an_event_loop_where_it_is_modal() -> None:
     assert sorted(place.words for place in case('progress').linked.program.modal.values()) == ['dialog.exec()', 'm_modal->setValue(value)']
 
 
+def test_a_slot_that_runs_an_event_loop_is_not_left_out() -> None:
+    """What the loop delivers may lead back to it."""
+    text = case('progress', lean=True).text
+    assert 'slot copy(int value) { }  //@ modal' in text and 'copyQuietly' not in text
+
+
 def test_connections_count_that_are_made_later() -> None:
     """What Qt made in an object is heard, wherever the connection to it stands."""
     assert case('views').body('clearEditText', 'Typed_QComboBox_m_box')[-1] == 'call this.to_QLineEdit_m_box_line.emit_textChanged("");'
