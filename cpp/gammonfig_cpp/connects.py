@@ -109,7 +109,8 @@ class Connects:
         if len(given) < 2:
             context.note('invokeMethod', call)
             return
-        hows = [self.how(a) for a in given[2:4]]
+        # A Q_ARG may stand in the place of the type of connection.
+        hows = [self.how(a) for a in given[2:4] if a.type.get_canonical().spelling == 'Qt::ConnectionType']
         text = first_text(given[1])
         slot = Named('text', name=text + '()') if text is not None and not context.callees.is_callable(given[1]) \
             else context.callees.of(given[1])

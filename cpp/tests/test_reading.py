@@ -314,6 +314,13 @@ def test_threads_and_event_loops_make_queued_wires() -> None:
     assert case('threads').body('invokesNow') == ['call this.to_Master.next();']
 
 
+def test_what_a_call_by_name_is_handed_is_no_type_of_connection() -> None:
+    found = case('threads')
+    assert found.body('invokesWith') == ['call this.to_Master.with(0);']
+    assert 'wire Master posted_38() -> Master with_with() queued;' in found.wires()
+    assert not [u for u in found.linked.whole.unknown if u.kind == 'connection type']
+
+
 def test_bindings() -> None:
     text = case('bindings').text
     assert '    property int m_width notify widthChanged();' in text

@@ -34,8 +34,11 @@ public:
     void postsLambda() { QTimer::singleShot(10, this, [this] { next(); }); }
     void invokes() { QMetaObject::invokeMethod(this, "next", Qt::QueuedConnection); }
     void invokesNow() { QMetaObject::invokeMethod(this, &Master::next); }
+    void invokesWith(int one) { QMetaObject::invokeMethod(this, "with", Q_ARG(int, one)); }
+    void invokesLaterWith(int one) { QMetaObject::invokeMethod(this, "with", Qt::QueuedConnection, Q_ARG(int, one)); }
 public slots:
     void next() { emit wanted(); }
+    void with(int) { emit wanted(); }
 signals:
     void wanted();
 private:
