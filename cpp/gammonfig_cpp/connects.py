@@ -101,7 +101,19 @@ class Connects:
             return self.connecting(call, given, on, 'timeout')
         if name == 'open' and parent in DIALOGS and len(given) > 1:
             context.note('connect', call)
-        return False
+        return parent == 'QThreadPool' and bool(given) and self._run_later(call, given[0])
+
+    def _run_later(self, call: Cursor, runnable: Cursor) -> bool:
+        """Whether a pool is handed a runnable: another thread calls its `run()`."""
+        context, formals = self.context, list(call.referenced.get_arguments())
+        cls = formals[0].type.get_canonical().get_pointee().get_declaration() if formals else None
+        run = next((k for k in (cls.get_definition() or cls).get_children() if k.spelling == 'run'), None) if cls is not None else None
+        if cls is None or run is None:
+            return False
+        statement = context.add('post', call, context.values.of(runnable))
+        statement.cls, statement.name = context.classes.note(cls), f'QThreadPool::{call.spelling}'
+        statement.named = Named('method', context.function_key(run), statement.cls, 'run')
+        return True
 
     def invoke(self, call: Cursor, given: list[Cursor]) -> None:
         context = self.context

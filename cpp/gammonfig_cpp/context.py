@@ -151,10 +151,10 @@ class Context:
     def site(self, key: str, cursor: Cursor, cls: str, hint: str = '') -> Value:
         """A place where an object is made."""
         if key not in self.facts.sites:
-            within = self.outer
+            within, function = self.outer, self.function.key if self.function is not None else ''
             if self.function is not None:
-                within = self.function.cls or self.function.key
-            self.facts.sites[key] = Site(cls, self.place(cursor), hint or self.hint, within)
+                within = self.function.cls or function
+            self.facts.sites[key] = Site(cls, self.place(cursor), hint or self.hint, within, function)
         return Value('site', key, cls)
 
     def spot(self, letter: str, cursor: Cursor) -> str:

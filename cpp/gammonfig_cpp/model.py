@@ -151,11 +151,13 @@ class Class:
 
 
 class Site(NamedTuple):
-    """A place where an object is made: `hint` names the variable that it goes to, `within` the class or function around it."""
+    """A place where an object is made: `hint` names the variable that it goes to, `within` the class or function around it, and
+    `function` the function that makes it, if one does."""
     cls: str
     place: Place
     hint: str
     within: str
+    function: str = ''
 
 
 @dataclass(slots=True)

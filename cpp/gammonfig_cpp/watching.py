@@ -151,6 +151,8 @@ class Watching:
             name = self.program.members[key].name.removeprefix('posted_')
             is_answered = (whole.name(cls or objects.cls(node[0])), name) in ANSWERED
             of_qt = cls and not whole.is_inside(cls) and not by_hand and objects.cls(node[0]) in whole.classes
-            if not is_answered and (by_qt or of_qt):
+            # A thread is started by no event loop, and not again while it runs.
+            is_thread = by_qt and name == 'run'
+            if not is_answered and not is_thread and (by_qt or of_qt):
                 starts.append(node)
         return starts

@@ -14,6 +14,7 @@ from .owning import of_each_object
 from .program import Program, Wire
 from .relations import Related
 from .targets import Target, Targets
+from .threads import Threads
 
 Source = tuple[Element, str]
 
@@ -57,6 +58,7 @@ class Wires:
         self.dropped: list[tuple[str, Connect]] = []
         self.of_threads: set[str] = set()
         self.moved: set[Element] = set()
+        self.mixed: set[Element] = set()
         self.holding = Holding(program.whole.flows)
 
     def all(self) -> None:
@@ -64,7 +66,9 @@ class Wires:
             for element in self.objects.elements(value):
                 if element.kind == 'site':
                     self.moved |= {element, self.program.role(element)}
-        self.of_threads = self._emitted_in_threads()
+        threads = Threads(self.whole, self.objects)
+        self.of_threads = threads.signals()
+        self._note_made(threads.sites())
         connects = self.whole.connects + self._by_names()
         for connect in connects:
             found = self._forwarded(connect)
@@ -76,6 +80,14 @@ class Wires:
         self.calling.watched = Related(self.objects, [Element('class', self.objects.cls(w.sender)) for w in self.program.wires
                                                       if w.signal[0] == 'signal'
                                                       and self.whole.name(self.whole.class_of(w.signal[1])) == 'QObject'])
+
+    def _note_made(self, sites: set[str]) -> None:
+        """Notes objects that are made in a thread, with their roles; of a role that others have too it isn't known where one lives."""
+        by_role: dict[Element, set[str]] = defaultdict(set)
+        for key in self.whole.sites if sites else ():
+            by_role[self.program.role(Element('site', key))].add(key)
+        self.moved |= {Element('site', key) for key in sites} | {role for role, keys in by_role.items() if keys <= sites}
+        self.mixed = {role for role, keys in by_role.items() if keys & sites and not keys <= sites}
 
     # One connection
 
@@ -155,7 +167,7 @@ class Wires:
         if how == 'auto' and usr in self.of_threads:
             how = 'queued'
             self.program.counts['auto connections that are queued: a thread alone emits'] += 1
-        elif how == 'auto' and receiver != FREE and (element in self.moved) != (receiver in self.moved):
+        elif how == 'auto' and receiver != FREE and not self.mixed & {element, receiver} and (element in self.moved) != (receiver in self.moved):
             how = 'queued'
             self.program.counts['auto connections that are queued: one end was moved to a thread'] += 1
         signal = self.program.signal(usr)
@@ -197,26 +209,3 @@ class Wires:
                     out.append(Connect(Value('site', key, site.cls), site.cls, Named('method', signal, whole.class_of(signal)),
                                        Value('class', cls=cls), cls, Named('method', usr, cls, method.name), 'auto', method.place, '', 'name'))
         return out
-
-    def _emitted_in_threads(self) -> set[str]:
-        """Signals that only run() of a QThread emits, or what only run() calls."""
-        whole, callers, called = self.whole, defaultdict(set), defaultdict(set)
-        for function in whole.functions.values():
-            for statement in function.statements:
-                if statement.kind == 'call':
-                    callers[statement.function].add(function.key)
-                    called[function.key].add(statement.function)
-        inside = {k for k, f in whole.functions.items() if f.name == 'run' and f.cls and whole.is_named(f.cls, 'QThread')}
-        todo = list(inside)
-        while todo:
-            more = {k for k in called[todo.pop()] if k in whole.functions and k not in inside and k not in self.objects.outside
-                    and callers[k] <= inside}
-            inside |= more
-            todo += more
-        emitted: set[str] = set()
-        elsewhere: set[str] = set()
-        for function in whole.functions.values():
-            for statement in function.statements:
-                if statement.kind in ('call', 'library') and whole.is_signal(statement.function):
-                    (emitted if function.key in inside else elsewhere).add(statement.function)
-        return emitted - elsewhere

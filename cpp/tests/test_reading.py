@@ -321,6 +321,25 @@ def test_what_a_call_by_name_is_handed_is_no_type_of_connection() -> None:
     assert not [u for u in found.linked.whole.unknown if u.kind == 'connection type']
 
 
+def test_what_is_made_in_a_thread_lives_there() -> None:
+    wires = case('threads').wires()
+    for wire in ('Engine ticked() -> Driver see() queued;', 'QTimer_m_timer timeout() -> Engine tick() auto;',
+                 'Job finished() -> Driver see() queued;'):
+        assert f'wire {wire}' in wires, wire
+
+
+def test_a_thread_is_no_way_back_by_an_event_loop() -> None:
+    found = case('threads')
+    assert 'wire Machine posted_run() -> Machine run() queued;  // Qt posts run' in found.wires()
+    told = json.loads(Watching(found.linked.program, found.written.names, found.written.places).text())['findings']
+    assert not [f for f in told if f['rule'] == 're-entry']
+
+
+def test_a_pool_runs_what_it_is_handed() -> None:
+    wires = case('threads').wires()
+    assert [w for w in wires if 'posted_' in w and 'run' in w and 'Machine' not in w] == ['wire Driver posted_86() -> Job run() queued;']
+
+
 def test_bindings() -> None:
     text = case('bindings').text
     assert '    property int m_width notify widthChanged();' in text

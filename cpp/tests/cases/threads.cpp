@@ -46,3 +46,50 @@ private:
     Loop m_loop;
     Worker *m_worker;
 };
+
+// What the thread makes for itself lives there, with what that makes.
+class Engine : public QObject {
+    Q_OBJECT
+public:
+    Engine() { connect(&m_timer, &QTimer::timeout, this, &Engine::tick); }
+public slots:
+    void tick() { emit ticked(); }
+signals:
+    void ticked();
+private:
+    QTimer m_timer;
+};
+
+class Machine : public QThread {
+    Q_OBJECT
+public:
+    void run() override { m_engine = new Engine; exec(); }
+    Engine *m_engine = nullptr;
+};
+
+class Job : public QObject, public QRunnable {
+    Q_OBJECT
+public:
+    void run() override { emit finished(); }
+signals:
+    void finished();
+};
+
+class Driver : public QObject {
+    Q_OBJECT
+public:
+    Driver() {
+        m_machine.start();
+        connect(m_machine.m_engine, &Engine::ticked, this, &Driver::see);
+        connect(&m_job, &Job::finished, this, &Driver::see);
+    }
+    void again() { QThreadPool::globalInstance()->start(&m_job); }
+public slots:
+    void see() { emit seen(); }
+signals:
+    void seen();
+private:
+    Machine m_machine;
+    Job m_job;
+    QTimer m_own;
+};
