@@ -2,6 +2,7 @@
 from __future__ import annotations
 
 from collections import defaultdict
+from copy import copy
 from dataclasses import dataclass, replace
 
 from .model import Condition, Place
@@ -14,11 +15,12 @@ Node = tuple[Element, Key]
 
 @dataclass(frozen=True)
 class Why:
-    """What draws an edge: a place with its conditions, and whether an event loop stands between."""
+    """What draws an edge: a place with its conditions, whether an event loop stands between, and whether it is a connection."""
     place: Place | None
     conditions: tuple[Condition, ...] = ()
     queued: bool = False
     way: str = 'other'
+    is_wire: bool = False
 
 
 class Graph:
@@ -65,12 +67,19 @@ class Graph:
                 continue
             for sender in self.roles(wire.sender):
                 for receiver in self.roles(wire.receiver) if (sender, wire.signal) in self.edges else ():
-                    self._add((sender, wire.signal), (receiver, wire.method), Why(wire.place, (), wire.how == 'queued', wire.way))
+                    self._add((sender, wire.signal), (receiver, wire.method), Why(wire.place, (), wire.how == 'queued', wire.way, True))
         for bound in self.program.bound:
             for source in bound.sources:
                 for role in self.roles(self.program.members[source].owner) if source in self.program.members else ():
                     for target in self.roles(self.program.members[bound.target].owner):
                         self._add((role, source), (target, bound.target), Why(bound.place))
+
+    def without(self, how: str) -> Graph:
+        """The graph without the steps that have such a condition."""
+        other = copy(self)
+        other.edges = {node: {to: why for to, why in edges.items() if all(c.how != how for c in why.conditions)}
+                       for node, edges in self.edges.items()}
+        return other
 
     def name(self, node: Node) -> str:
         """A node as the verdict names it."""

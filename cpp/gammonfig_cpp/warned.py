@@ -83,6 +83,8 @@ class Warnings:
         for finding in verdict.findings:
             if finding.rule == 'queued-cycle' and finding.chain and all(s.from_ in self.by_death for s in finding.chain):
                 finding.note, finding.severity = DIES_ONCE, 'note'
+            elif finding.rule == 'queued-cycle' and _is_blocked(finding.chain):
+                finding.note, finding.severity = BLOCKED, 'note'
         self._one_for_each_set(verdict)
         self._one_for_each_tree(verdict)
 
@@ -115,11 +117,15 @@ class Warnings:
 
 
 def _is_blocked(chain: list[StepTold]) -> bool:
-    """Whether one step of a circle calls an object whose signals are blocked meanwhile, and a later one is a connection to a signal of it."""
+    """Whether one step of a circle calls an object whose signals are blocked meanwhile, and a later one is a connection to a signal of it,
+    which no event loop stands before."""
     for at, step in enumerate(chain):
-        blocked = step.to.partition('.')[0] if any(c.startswith('blocked by') for c in step.spot.conditions) else None
-        if any(later.by == 'wire' and later.from_.partition('.')[0] == blocked for later in chain[at + 1:] + chain[:at]):
-            return True
+        blocked = step.to.partition('.')[0] if any(c.startswith('blocked by') for c in step.spot.conditions) and not step.is_later else None
+        for later in chain[at + 1:] + chain[:at] if blocked is not None else ():
+            if later.by == 'wire' and later.from_.partition('.')[0] == blocked:
+                return True
+            if later.is_later:
+                break
     return False
 
 
@@ -149,5 +155,5 @@ def warning_of(told: dict[str, Any]) -> Finding:
         return Spot(str(of.get('file', '')), int(of.get('line', 0)), int(of.get('column', 0)), str(of.get('words', '')),
                     tuple(of.get('conditions', ())))
 
-    chain = [StepTold(spot(s), str(s['from']), str(s['to']), str(s['by']), str(s['message']), s['by'] == 'queued') for s in told['chain']]
+    chain = [StepTold(spot(s), str(s['from']), str(s['to']), str(s['by']), str(s['message']), bool(s['queued'])) for s in told['chain']]
     return Finding(spot(told), str(told['rule']), 0, str(told['message']), '', chain, 'warning')

@@ -85,8 +85,8 @@ class Watching:
         chain = []
         for one, two in zip(way, way[1:]):
             why = self.graph.edges[one][two]
-            names = {'from': self.graph.name(one), 'to': self.graph.name(two), 'by': 'queued' if why.queued else 'direct',
-                     'message': f'`{self.graph.name(one)}` leads {"later " if why.queued else ""}to `{self.graph.name(two)}`'}
+            names = {'from': self.graph.name(one), 'to': self.graph.name(two), 'by': 'wire' if why.is_wire else 'statement',
+                     'queued': why.queued, 'message': f'`{self.graph.name(one)}` leads {"later " if why.queued else ""}to `{self.graph.name(two)}`'}
             chain.append(self._told(why) | names)
         return chain
 
@@ -97,21 +97,28 @@ class Watching:
         return {'rule': rule, 'number': 0, 'severity': 'warning', 'message': message, **spot, 'chain': chain}
 
     def _queued_cycles(self) -> list[dict[str, object]]:
-        """A shortest circle with a queued step of each set of members that lead to one another."""
-        found = []
+        """A shortest circle with a queued step of each set of members that lead to one another; one through blocked signals, where there
+        is no other."""
+        found, free = [], self.graph.without('blocked by')
         for members in components({n: list(to) for n, to in self.graph.edges.items()}):
-            best: list[Node] | None = None
-            for one in sorted(members):
-                for two, why in self.graph.edges[one].items():
-                    most = len(best) - 2 if best is not None else len(members)
-                    way = self.graph.way([two], one, members, most) if why.queued and two in members else None
-                    if way is not None and (best is None or len(way) + 1 < len(best)):
-                        best = [one, *way]
+            best = self._shortest(free, members) or self._shortest(self.graph, members)
             if best is not None:
                 name = self.graph.name(best[0])
                 found.append(self._finding('queued-cycle', f'`{name}` may lead back to itself through an event loop, and so go on '
                                            'as long as that runs', best))
         return found
+
+    @staticmethod
+    def _shortest(graph: Graph, members: set[Node]) -> list[Node] | None:
+        """A shortest circle with a queued step among some members."""
+        best: list[Node] | None = None
+        for one in sorted(members):
+            for two, why in graph.edges[one].items():
+                most = len(best) - 2 if best is not None else len(members)
+                way = graph.way([two], one, members, most) if why.queued and two in members else None
+                if way is not None and (best is None or len(way) + 1 < len(best)):
+                    best = [one, *way]
+        return best
 
     def _re_entries(self) -> list[dict[str, object]]:
         """Slots that run an event loop, in which they may be called again."""

@@ -226,6 +226,12 @@ def test_a_circle_by_blocked_signals_or_without_its_connection() -> None:
         verdict = circle(*conditions)
         Warnings([], [], [], set(), set(), [], set(), set(), False).add_to(verdict)
         assert verdict.findings[0].severity == severity
+    for later, severity in ((1, 'error'), (2, 'note')):
+        verdict = circle('blocked by `blocker(m_dial)`')
+        verdict.findings[0].rule = 'queued-cycle'
+        verdict.findings[0].chain[later].is_later = True
+        Warnings([], [], [], set(), set(), [], set(), set(), False).add_to(verdict)
+        assert verdict.findings[0].severity == severity, 'through an event loop too, where that comes behind the signal'
     for to, severity in (('Desk.fill()', 'note'), ('Desk.empty()', 'error')):
         verdict = circle()
         Warnings([], [], [], set(), set(), [], set(), {('Dial_m_dial.turned()', to)}, False).add_to(verdict)

@@ -335,6 +335,14 @@ def test_a_thread_is_no_way_back_by_an_event_loop() -> None:
     assert not [f for f in told if f['rule'] == 're-entry']
 
 
+def test_of_circles_through_an_event_loop_one_with_blocked_signals_is_told_last() -> None:
+    found = case('threads')
+    told = json.loads(Watching(found.linked.program, found.written.names, found.written.places).text())['findings']
+    ways = [{step['to'] for step in f['chain']} for f in told if 'Panel' in str(f['chain'])]
+    blocked = [any(c.startswith('blocked by') for step in f['chain'] for c in step.get('conditions', ())) for f in told if 'Panel' in str(f['chain'])]
+    assert [('Knob_m_knob.push()' in way, is_blocked) for way, is_blocked in zip(ways, blocked)] == [(True, False), (False, True)]
+
+
 def test_a_pool_runs_what_it_is_handed() -> None:
     wires = case('threads').wires()
     assert [w for w in wires if 'posted_' in w and 'run' in w and 'Machine' not in w] == ['wire Driver posted_86() -> Job run() queued;']

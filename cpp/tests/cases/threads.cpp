@@ -93,3 +93,29 @@ private:
     Job m_job;
     QTimer m_own;
 };
+
+// A circle through an event loop: the signals are blocked on the shorter way, and on the longer one where there is no other.
+class Knob : public QObject {
+    Q_OBJECT
+public:
+    void turn() { emit turned(); }
+    void push() { turn(); }
+signals:
+    void turned();
+};
+
+class Panel : public QObject {
+    Q_OBJECT
+public:
+    Panel()
+    {
+        connect(&m_knob, &Knob::turned, this, &Panel::later);
+        connect(&m_other, &Knob::turned, this, &Panel::otherLater);
+    }
+    void later() { QTimer::singleShot(0, this, &Panel::show); }
+    void otherLater() { QTimer::singleShot(0, this, &Panel::showOther); }
+    void show() { m_knob.blockSignals(true); m_knob.turn(); m_knob.blockSignals(false); m_knob.push(); }
+    void showOther() { m_other.blockSignals(true); m_other.turn(); m_other.blockSignals(false); }
+private:
+    Knob m_knob, m_other;
+};
