@@ -5,9 +5,10 @@ import re
 
 from .classes import BINDABLE, CONTAINERS, SMART
 from .context import Context
+from .functors import Functors
 from .holders import Holders
 from .keeping import OF_VALUES, Keeping
-from .libclang import FUNCTIONS, NAMES, RECORDS, VARIABLES, Cursor, K, T, bare, expressions, is_written, strip
+from .libclang import FUNCTIONS, NAMES, RECORDS, VARIABLES, Cursor, K, T, expressions, is_written, strip
 from .model import NONE, Condition, Construct, Forward, Named, Statement, Value
 from .parting import Parting
 from .possessing import Possessing
@@ -18,16 +19,13 @@ PLAIN = {'QString', 'QByteArray', 'QVariant', 'QPainter', 'QDebug', 'QRect', 'QP
          'QStringBuilder', 'QColor', 'QModelIndex', 'QTextStream', 'QStringView', 'QLatin1String', 'QChar', 'QUrl', 'QDir', 'QFont',
          'QDateTime', 'QDate', 'QTime', 'QPixmap', 'QImage', 'QIcon', 'QBrush', 'QPen', 'QMargins', 'QStringList', 'QBasicAtomicInteger'}
 BINDABLES = BINDABLE + ('QPropertyData', 'QBindable', 'QUntypedBindable')
-# Functions that take a functor and call it later, from an event loop or in another thread.
-DEFERRED = {'singleShot', 'run', 'create', 'mapped', 'map', 'filtered', 'filter', 'mappedReduced', 'filteredReduced', 'then', 'onFailed',
-            'onCanceled', 'callOnTimeout', 'start', 'tryStart', 'addTransition', 'defineRole', 'task', 'postToMain', 'runOnThread'}
 
 
 class Calls:
     def __init__(self, context: Context) -> None:
         self.context = context
         self.holders, self.keeping, self.possessing = Holders(context), Keeping(context), Possessing(context)
-        self.special, self.parting = Special(context), Parting(context)
+        self.special, self.parting, self.functors = Special(context), Parting(context), Functors(context)
 
     # The parts of a call
 
@@ -136,7 +134,7 @@ class Calls:
         called, given = call.referenced, list(call.get_arguments())
         if self.context.is_inside(called):
             self._to_function(call, called, Value('free'), given)
-            self.functors_of_own(call, called, given)
+            self.functors.to_own(call, called, given)
         elif called.spelling == 'qDeleteAll' and given:
             cls = self.context.classes.of(given[0].type)
             if cls:
@@ -148,7 +146,7 @@ class Calls:
         else:
             if called.spelling in ('move', 'forward') and given:
                 self.context.bodies.release(given[0])
-            self.functors(call, called.spelling, given)
+            self.functors.to_library(call, called.spelling, given)
         self.rest(call)
 
     def _member(self, call: Cursor) -> None:
@@ -172,7 +170,7 @@ class Calls:
         elif inside:
             self._to_function(call, called, self.objects(call, on), given)
             self._told(call, called, given)
-            self.functors_of_own(call, called, given)
+            self.functors.to_own(call, called, given)
             self.rest(call)
         else:
             self._library(call, on, given)
@@ -233,7 +231,7 @@ class Calls:
         if called.spelling.startswith('operator'):
             self.keeping.keep(on, given)
         elif not self.context.connects.by_library(call, called.semantic_parent.spelling, called.spelling, value, given):
-            self.functors(call, called.spelling, given)
+            self.functors.to_library(call, called.spelling, given)
         self.rest(call, callables=False)
 
     # Arguments
@@ -307,7 +305,7 @@ class Calls:
         inside = context.is_inside(called)
         if inside:
             self._to_function(call, called, on, given).virtual = False
-            self.functors_of_own(call, called, given)
+            self.functors.to_own(call, called, given)
             self.note_construction(context.function_key(called), on, given)
         self._own_by_parent(call, called, on, given)
         self.special.constructed(call, context.facts.classes[cls].name, inside, on, given)
@@ -361,32 +359,3 @@ class Calls:
                 return called
             called = found[0]
         return called
-
-    def functors(self, call: Cursor, name: str, given: list[Cursor]) -> None:
-        """A lambda handed to a function of a library: called at once as far as is known, unless it is known to be later."""
-        for argument in given:
-            stripped = bare(argument)
-            is_holder = stripped.kind == K.CALL_EXPR and stripped.referenced is not None and stripped.referenced.kind == K.CONSTRUCTOR
-            key = self.context.callees.lambda_in(argument) if stripped.kind == K.LAMBDA_EXPR or is_holder \
-                or stripped.kind == K.DECL_REF_EXPR else None
-            if key is None:
-                continue
-            if name in DEFERRED:
-                statement = self.context.add('post', call)
-                statement.named, statement.name = Named('lambda', key), name
-            else:
-                self.inline(call, key)
-                self.context.note('functor', call, f'given to {name}, taken to be called at once: {self.context.text(call, 50)}')
-
-    def functors_of_own(self, call: Cursor, called: Cursor, given: list[Cursor]) -> None:
-        """A lambda handed to a function of the application: called there, if it isn't connected."""
-        for at, argument in enumerate(given):
-            stripped = bare(argument)
-            holds = stripped.kind == K.CALL_EXPR and any(k.kind == K.LAMBDA_EXPR for k in stripped.walk_preorder())
-            if stripped.kind != K.LAMBDA_EXPR and not holds:
-                continue
-            key = self.context.callees.lambda_in(argument)
-            if key:
-                slot = f'P:{self.context.function_key(called)}:{at}'
-                self.context.facts.callables.append((slot, Named('lambda', key)))
-                self.inline(call, key).given = slot

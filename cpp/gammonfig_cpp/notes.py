@@ -11,7 +11,7 @@ from .writing import Written
 MOST = 200
 MEANING = {
     'lambda': 'A lambda that isn\'t connected is taken to be called where it stands.',
-    'functor': 'A lambda that is handed to a function of a library is taken to be called there.',
+    'functor': 'A lambda or function that is handed to a function of a library is taken to be called there.',
     'function pointer': 'What a pointer to a function leads to isn\'t known where nothing that was read, or something unknown, is put into it.',
     'function object': 'What a function object calls isn\'t known where nothing that was read, or something unknown, is put into it.',
     'undecided call': 'A call of which it isn\'t known what it calls is left out.',
@@ -93,7 +93,7 @@ class Notes:
     def _silent(self) -> None:
         items = [f'`{name}`, called {number} time{"s" if number > 1 else ""}' for name, number in
                  sorted(self.program.silent.items(), key=lambda s: (-s[1], s[0]))]
-        self._list('Functions of Qt that are taken to be silent', items)
+        self._list('Functions of Qt and of other libraries that are taken to be silent', items)
 
     def _unknown(self) -> None:
         by_kind: dict[str, list[Unknown]] = defaultdict(list)

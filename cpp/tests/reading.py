@@ -22,7 +22,7 @@ from gammonfig_cpp.writing import Writing, Written  # noqa: E402
 
 
 # The modules of Qt that cases need beyond its core.
-MODULES = {**dict.fromkeys(('answers.cpp', 'visits.cpp'), 'Qt6Network'),
+MODULES = {'handing.cpp': 'Qt6Concurrent', **dict.fromkeys(('answers.cpp', 'visits.cpp'), 'Qt6Network'),
            **dict.fromkeys(('ends.cpp', 'items.cpp', 'owners.cpp', 'progress.cpp', 'selections.cpp', 'views.cpp', 'widgets.cpp'), 'Qt6Widgets')}
 
 

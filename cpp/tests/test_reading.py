@@ -51,6 +51,18 @@ def test_function_objects_that_are_known_are_not_listed() -> None:
     assert unknown == [('function object', what, line) for what, line in (('strange_()', 44), ('empty_()', 45), ('given()', 46), ('given()', 48))]
 
 
+def test_functions_that_a_library_is_handed() -> None:
+    found = case('handing')
+    assert found.body('byFunction') == ['call this.to_Functions.strikeOne("");']
+    assert found.body('byStatic') == ['call this.to_Functions.Tower_strikeAny("");']
+    assert found.body('byVariable') == ['call this.to_Functions.strikeOne("");']
+    posted = {line for name in ('byMember', 'laterByFunction') for line in found.body(name)}
+    assert posted == {'emit posted_25();', 'emit posted_26();'}
+    for wire in ('Tower posted_25() -> Tower strikeAll()', 'Tower posted_26() -> Functions strikeOne_with()'):
+        assert f'wire {wire} queued;' in found.wires(), wire
+    assert [(u.kind, u.place.line) for u in found.linked.whole.unknown] == [('functor', 22), ('functor', 23), ('functor', 24)]
+
+
 def test_a_helper_is_read_at_its_calls() -> None:
     assert case('connects').place('wire Sender plain() -> Receiver byHelper()').split('\t')[2:4] == ['connects.cpp', '65']
 

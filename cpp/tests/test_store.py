@@ -1,11 +1,12 @@
 """Facts that are kept: they come back as they were read, each class once however many units tell it, while their files stay as they are."""
 import os
 import pathlib
+import re
 
 import pytest
 
 from reading import facts, flags
-from gammonfig_cpp import gather as gathering
+from gammonfig_cpp import gather as gathering, store
 from gammonfig_cpp.classes import Classes
 from gammonfig_cpp.libclang import Cursor
 from gammonfig_cpp.model import Class, Facts
@@ -21,6 +22,16 @@ public:
     void f() {{ start(); }}
 }};
 '''
+
+
+def test_facts_are_read_anew_where_a_module_changed_that_reads_them() -> None:
+    package, todo, seen = pathlib.Path(store.__file__).parent, ['facts'], {'facts'}
+    while todo:
+        named = set(re.findall(r'^from \.(\w+) import', (package / f'{todo.pop()}.py').read_text(), re.M)) - seen
+        todo += named
+        seen |= named
+    # These read nothing: `whole` is what the table looks at.
+    assert seen - {'errors', 'cleaning', 'whole'} <= set(store.READERS)
 
 
 def kept(folder: pathlib.Path) -> tuple[Cache, list[Unit], list[str]]:
