@@ -8,6 +8,8 @@ from .whole import Whole
 
 # Classes whose `run()` another thread calls.
 RUNNING = ('QThread', 'QRunnable')
+# What clang puts between a class and its member.
+FIELD = '@FI@'
 
 
 class Threads:
@@ -50,5 +52,10 @@ class Threads:
             by_class[site.cls].add(key)
         for _ in range(4):
             classes = {cls for cls in by_class if all(by_class.get(below, made) <= made for below in whole.below(cls))}
-            made |= {key for key, site in whole.sites.items() if site.within in classes}
+            made |= {key for key, site in whole.sites.items() if (site.within or self._having(key)) in classes}
         return made
+
+    @staticmethod
+    def _having(key: str) -> str:
+        """The class that has an object as a member which is a value: that is made with it."""
+        return key.partition(FIELD)[0] if FIELD in key else ''

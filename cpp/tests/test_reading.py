@@ -4,6 +4,7 @@ from dataclasses import replace
 
 from reading import case, facts
 from gammonfig_cpp.model import Facts
+from gammonfig_cpp.threads import Threads
 from gammonfig_cpp.watching import Watching
 from gammonfig_cpp.whole import Whole
 
@@ -338,6 +339,16 @@ def test_what_is_made_in_a_thread_lives_there() -> None:
     for wire in ('Engine ticked() -> Driver see() queued;', 'QTimer_m_timer timeout() -> Engine tick() auto;',
                  'Job finished() -> Driver see() queued;'):
         assert f'wire {wire}' in wires, wire
+
+
+def test_a_member_of_what_a_thread_makes_lives_there() -> None:
+    """Also where a unit that doesn't see the constructor told of the member first."""
+    linked = case('threads').linked
+    sites = linked.whole.sites
+    key = next(key for key in sites if key.endswith('Engine@FI@m_timer'))
+    site, sites[key] = sites[key], sites[key]._replace(within='', function='')
+    assert key in Threads(linked.whole, linked.program.objects).sites()
+    sites[key] = site
 
 
 def test_a_thread_is_no_way_back_by_an_event_loop() -> None:
