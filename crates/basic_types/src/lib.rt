@@ -16,6 +16,7 @@ mod shared_bytes;
 mod sig;
 mod text;
 mod value;
+mod value_name;
 mod word;
 
 pub use arguments::Arguments;
@@ -33,4 +34,5 @@ pub use shared_bytes::SharedBytes;
 pub use sig::{Sig, fits, fits_in_order};
 pub use text::{LONGEST_TEXT, Text, is_text, is_text_byte};
 pub use value::Value;
+pub use value_name::{BOOL, INT, QSTRING, is_value_name};
 pub use word::Word;

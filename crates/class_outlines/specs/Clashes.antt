@@ -1,5 +1,6 @@
 -- Names of classes and of members that clash (docs/language.md, "Names").
 use Rattle.std.specs.Prelude.{◌≡◌, ℕ, List, length, Any, ◌⊎◌, codes}
+use Rattle.basic_types.specs.Types.{IsValueName}
 use Rattle.syntax_trees.specs.declared.program.Property.{Property}
 use Rattle.syntax_trees.specs.declared.program.Class.{Class}
 use Rattle.syntax_trees.specs.declared.program.Program.{Program}
@@ -10,7 +11,7 @@ use Rattle.name_indexes.specs.Twice.{StandsTwice}
 -- ---- names of classes
 -- no class may have this name
 abbrev pub IsTaken : List ℕ → Type 0
-IsTaken name = (name ≡ codes "QObject") ⊎ (name ≡ codes "int") ⊎ (name ≡ codes "bool") ⊎ (name ≡ codes "QString")
+IsTaken name = (name ≡ codes "QObject") ⊎ IsValueName name
 
 -- two classes have one name, or a class has a name that none may have
 abbrev pub DuplicateClass : Program → Type 0

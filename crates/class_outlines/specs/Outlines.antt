@@ -4,7 +4,7 @@ use Rattle.std.specs.Borrow.{Bor}
 use Rattle.std.specs.Prelude.{◌≡◌, ℕ, suc, false, List, [], ◌∷◌, ◌++◌, map, length, take, Option, None, Some, slice_get, Result, codes}
 use Rattle.basic_types.specs.declared.qtype.QType.{QType}
 use Rattle.basic_types.specs.declared.sig.Sig.{Sig}
-use Rattle.basic_types.specs.Types.{value_type}
+use Rattle.basic_types.specs.Types.{value_type, text_name}
 use Rattle.syntax_trees.specs.declared.program.Parameter.{Parameter}
 use Rattle.syntax_trees.specs.declared.program.Property.{Property}
 use Rattle.syntax_trees.specs.declared.program.Signal.{Signal}
@@ -25,7 +25,7 @@ heading sig s = record { sig = sig; sort = s }
 
 -- ---- QObject
 abbrev pub object_name : Property
-object_name = record { kind = value_type (codes "QString"); name = codes "objectName"; initial = None; notify = Some name_changed }
+object_name = record { kind = value_type text_name; name = codes "objectName"; initial = None; notify = Some name_changed }
 
 abbrev pub qobject : Outline
 qobject = record {

@@ -3,12 +3,12 @@
 ghost use Rattle.std.specs.Prelude.{◌≡◌, false, [], ◌∷◌, ◌++◌, IfOk, OnOk, codes};
 ghost use Rattle.basic_types.specs.Name.{IsName};
 ghost use Rattle.basic_types.specs.Normal.{pointer_type};
-ghost use Rattle.basic_types.specs.Types.{value_type};
+ghost use Rattle.basic_types.specs.Types.{text_name, value_type};
 ghost use Rattle.meta_model.specs.QObject.{sig_of, name_changed};
 ghost use Rattle.class_outlines.specs.Outlines.{qobject, heading, object_name};
 
 use crate::outline::{Heading, Outline, Sort};
-use basic_types::{Name, QType, Shared, Sig};
+use basic_types::{Name, QSTRING, QType, Shared, Sig};
 use sqlite_items::Items;
 use std::alloc::{AllocError, Global};
 use syntax_trees::Property;
@@ -101,9 +101,9 @@ pub fn reference_to(class: &Name) -> Result<QType, AllocError>
 
 /// `QString`
 fn text_type(alloc: Global) -> Result<QType, AllocError>
-    ensures { IfOk result (λ kind. kind ≡ value_type (codes "QString")) }
+    ensures { IfOk result (λ kind. kind ≡ value_type text_name) }
 {
-    let name = Name::new(alloc, b"QString")?;
+    let name = Name::new(alloc, QSTRING)?;
     Ok(QType::value(name))
 }
 

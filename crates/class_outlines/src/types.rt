@@ -8,7 +8,7 @@ ghost use Rattle.name_indexes.specs.LookUps.{LooksUp};
 ghost use Rattle.basic_types.specs.Types.{value_type};
 
 use crate::class_table::ClassTable;
-use basic_types::QType;
+use basic_types::{BOOL, INT, QSTRING, QType};
 use meta_model::ValueType;
 use sqlite_items::Items;
 use std::alloc::{AllocError, Global};
@@ -22,11 +22,11 @@ pub fn kind_of(outlines: &ClassTable, declared: &QType) -> Option<ValueType>
             Some(class) => Some(ValueType::Reference(class, declared.constant)),
             None => None,
         }
-    } else if is_value_type(declared, b"int") {
+    } else if is_value_type(declared, INT) {
         Some(ValueType::Int)
-    } else if is_value_type(declared, b"bool") {
+    } else if is_value_type(declared, BOOL) {
         Some(ValueType::Bool)
-    } else if is_value_type(declared, b"QString") {
+    } else if is_value_type(declared, QSTRING) {
         Some(ValueType::Text)
     } else {
         None

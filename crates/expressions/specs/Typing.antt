@@ -1,6 +1,6 @@
 -- The types of expressions (docs/language.md, "Types").
-use Rattle.std.specs.{Prelude.{◌≡◌, ◌⊎◌, if◌then◌else◌, ℕ, true, false, List, Option, Some, None, codes}, Option.{option_and_then, option_map}}
-use Rattle.basic_types.specs.{declared.value.Value.{Value}, declared.qtype.QType.{QType}, Normal.{pointer_type}, Types.{value_type}, Values.{Types, Has}}
+use Rattle.std.specs.{Prelude.{◌≡◌, ◌⊎◌, if◌then◌else◌, ℕ, true, false, List, Option, Some, None}, Option.{option_and_then, option_map}}
+use Rattle.basic_types.specs.{declared.value.Value.{Value}, declared.qtype.QType.{QType}, Normal.{pointer_type}, Types.{value_type, int_name, bool_name, text_name}, Values.{Types, Has}}
 use Rattle.basic_types.specs.declared.value.Value.TheVariants as value
 use Rattle.syntax_trees.specs.{declared.syntax.Unary.{Unary}, declared.syntax.Unary.TheVariants.{Not, Minus}, declared.syntax.Binary.{Binary}, declared.syntax.Binary.TheVariants.{Add, Subtract, Multiply, Less, AtMost, Greater, AtLeast, Equal, Different, And, Or}, declared.syntax.Expr.{Expr}, declared.syntax.Expr.TheFolds.{fold-Expr}}
 use Rattle.syntax_trees.specs.declared.syntax.Expr.TheOpen as layer
@@ -16,9 +16,9 @@ value_sort (value.Ref r) = Reference
 -- the sort of the values of a type: three value types have one, by their names, and pointers are references
 abbrev pub named_sort : List ℕ → Option Sort
 named_sort name =
-    if same_text name (codes "int") then Some Int
-    else if same_text name (codes "bool") then Some Truth
-    else if same_text name (codes "QString") then Some Text
+    if same_text name int_name then Some Int
+    else if same_text name bool_name then Some Truth
+    else if same_text name text_name then Some Text
     else None
 
 abbrev pub declared_sort : QType → Option Sort
@@ -30,9 +30,9 @@ sort_of (Of t) = declared_sort t
 
 -- the type of the values of a sort; of references it is null's, which names no class
 abbrev pub type_of_sort : Sort → ExprType
-type_of_sort Int = Of (value_type (codes "int"))
-type_of_sort Truth = Of (value_type (codes "bool"))
-type_of_sort Text = Of (value_type (codes "QString"))
+type_of_sort Int = Of (value_type int_name)
+type_of_sort Truth = Of (value_type bool_name)
+type_of_sort Text = Of (value_type text_name)
 type_of_sort Reference = Null
 
 -- what the operators take, and what they give
@@ -91,7 +91,7 @@ Accepts below declared (Of given) = AcceptsValue declared given ⊎ AcceptsRefer
 
 -- how the types of values are declared, where names stand for classes
 abbrev pub declared_types : Types QType (List ℕ)
-declared_types = record { number = value_type (codes "int"); truth = value_type (codes "bool"); text = value_type (codes "QString"); reference = pointer_type }
+declared_types = record { number = value_type int_name; truth = value_type bool_name; text = value_type text_name; reference = pointer_type }
 
 -- a value is of a type, where `class` gives the class of each living object; only null is of null's
 abbrev pub IsOf : (ℕ → Option (List ℕ)) → (List ℕ → List ℕ → Type 0) → Value → ExprType → Type 0

@@ -3,7 +3,7 @@
 ghost use Rattle.std.specs.Prelude.{◌≡◌};
 ghost use Rattle.expressions.specs.Typing.{named_sort, value_sort, unary_sort, binary_sort};
 
-use basic_types::{Name, Value};
+use basic_types::{BOOL, INT, Name, QSTRING, Value};
 use syntax_trees::{Binary, Unary};
 
 /// What operators see of a value and of a type.
@@ -36,11 +36,11 @@ pub fn named_sort(name: &Name) -> Option<Sort>
     ensures { result ≡ named_sort name.now }
 {
     let bytes = name.bytes();
-    if bytes == b"int".as_slice() {
+    if bytes == INT {
         Some(Sort::Int)
-    } else if bytes == b"bool".as_slice() {
+    } else if bytes == BOOL {
         Some(Sort::Bool)
-    } else if bytes == b"QString".as_slice() {
+    } else if bytes == QSTRING {
         Some(Sort::Text)
     } else {
         None

@@ -7,7 +7,7 @@ ghost use Rattle.expressions.specs.Typing.{sort_of, type_of_sort, literal_type, 
 
 use crate::evaluation::World;
 use crate::sort::{Sort, binary_sort, named_sort, unary_sort, value_sort};
-use basic_types::{Name, QType, Value};
+use basic_types::{BOOL, INT, Name, QSTRING, QType, Value};
 use std::alloc::{AllocError, Global};
 use syntax_trees::Expr;
 
@@ -108,9 +108,9 @@ fn type_of_sort(alloc: Global, sort: Option<Sort>) -> Result<Option<ExprType>, A
     ensures { IfOk result (λ found. found ≡ option_map type_of_sort sort) }
 {
     let name = match sort {
-        Some(Sort::Int) => Name::new(alloc, b"int")?,
-        Some(Sort::Bool) => Name::new(alloc, b"bool")?,
-        Some(Sort::Text) => Name::new(alloc, b"QString")?,
+        Some(Sort::Int) => Name::new(alloc, INT)?,
+        Some(Sort::Bool) => Name::new(alloc, BOOL)?,
+        Some(Sort::Text) => Name::new(alloc, QSTRING)?,
         Some(Sort::Reference) => return Ok(Some(ExprType::Null)),
         None => return Ok(None),
     };

@@ -1,9 +1,9 @@
 -- A method that fits a signal by its declared types fits it by their value_types.
-use Rattle.std.proofs.Common.{◌≡◌, ◌≢◌, inl, inr, ℕ, Bool, true, false, cond, List, [], ◌∷◌, ◌++◌, length, Some, slice_get, codes, refl, sym, ap, ◌∙◌, subst, arith}
+use Rattle.std.proofs.Common.{◌≡◌, ◌≢◌, inl, inr, ℕ, Bool, true, false, cond, List, [], ◌∷◌, ◌++◌, length, Some, slice_get, refl, sym, ap, ◌∙◌, subst, arith}
 use Rattle.std.specs.List.{AllZip}
 use Rattle.std.proofs.lemmas.Bool.{cases_eq, ne_eqb}
 use Rattle.basic_types.specs.declared.qtype.QType.{QType}
-use Rattle.basic_types.specs.Types.{Fits, value_type}
+use Rattle.basic_types.specs.Types.{Fits, value_type, int_name, bool_name, text_name}
 use Rattle.meta_model.specs.declared.object.MetaMethod.{MetaMethod}
 use Rattle.meta_model.specs.declared.object.ValueType.{ValueType}
 use Rattle.meta_model.specs.declared.object.ValueType.TheVariants as kind
@@ -16,13 +16,13 @@ use Rattle.machine_rules.specs.Connecting.{named_signal}
 use Rattle.meta_model.proofs.Roots.{destroyed_alone_types}
 
 -- of what `int`, `bool` and `QString` differ
-int-bool : value_type (codes "int") ≡ value_type (codes "bool") → ⊥
+int-bool : value_type int_name ≡ value_type bool_name → ⊥
 int-bool e = let n : 3 ≡ 4 = ap (λ (t : QType). length t.name) e in absurd (omega (arith, n))
 
-int-text : value_type (codes "int") ≡ value_type (codes "QString") → ⊥
+int-text : value_type int_name ≡ value_type text_name → ⊥
 int-text e = let n : 3 ≡ 7 = ap (λ (t : QType). length t.name) e in absurd (omega (arith, n))
 
-bool-text : value_type (codes "bool") ≡ value_type (codes "QString") → ⊥
+bool-text : value_type bool_name ≡ value_type text_name → ⊥
 bool-text e = let n : 4 ≡ 7 = ap (λ (t : QType). length t.name) e in absurd (omega (arith, n))
 
 -- a value type is no pointer

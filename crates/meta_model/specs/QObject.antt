@@ -3,7 +3,7 @@ use Rattle.std.specs.Prelude.{ℕ, false, List, [], ◌∷◌, codes}
 use Rattle.basic_types.specs.declared.qtype.QType.{QType}
 use Rattle.basic_types.specs.declared.sig.Sig.{Sig}
 use Rattle.basic_types.specs.Normal.{pointer_type}
-use Rattle.basic_types.specs.Types.{value_type}
+use Rattle.basic_types.specs.Types.{value_type, text_name}
 
 abbrev pub destroyed : Sig
 destroyed = record { name = codes "destroyed"; types = pointer_type (codes "QObject") false ∷ [] }
@@ -16,7 +16,7 @@ abbrev pub destroyed_alone : Sig
 destroyed_alone = sig_of (codes "destroyed") []
 
 abbrev pub name_changed : Sig
-name_changed = sig_of (codes "objectNameChanged") (value_type (codes "QString") ∷ [])
+name_changed = sig_of (codes "objectNameChanged") (value_type text_name ∷ [])
 
 abbrev pub delete_later : Sig
 delete_later = sig_of (codes "deleteLater") []

@@ -3,7 +3,7 @@
 use Rattle.std.specs.Prelude.{◌≡◌, false, List, [], ◌∷◌, ◌++◌, None, Some, codes}
 use Rattle.basic_types.specs.declared.sig.Sig.{Sig}
 use Rattle.basic_types.specs.declared.value.Value.TheVariants as value
-use Rattle.basic_types.specs.Types.{value_type}
+use Rattle.basic_types.specs.Types.{value_type, text_name}
 use Rattle.meta_model.specs.declared.object.ValueType.{ValueType}
 use Rattle.meta_model.specs.declared.object.ValueType.TheVariants as type
 use Rattle.meta_model.specs.declared.object.MetaRoot.TheVariants.{This}
@@ -37,7 +37,7 @@ root_methods =
 abbrev pub root_property : MetaProperty
 root_property = record {
   name = codes "objectName";
-  declared = value_type (codes "QString");
+  declared = value_type text_name;
   kind = type.Text;
   initial = value.Text [];
   notify = Some OBJECT_NAME_CHANGED;

@@ -14,7 +14,7 @@ ghost use Rattle.class_outlines.specs.declared.reason.Reason.TheVariants as reas
 ghost use Rattle.syntax_trees.specs.declared.program.Class.{Class as AClass};
 ghost use Rattle.syntax_trees.specs.declared.program.Signal.{Signal as ASignal};
 
-use basic_types::{Name, Sig};
+use basic_types::{Name, Sig, is_value_name};
 use class_outlines::{
     Breach, ClassClash, Declaration, Member, Offence, Reason, Repeated, names_before_parameter,
     names_before_work, names_of_sig,
@@ -143,10 +143,7 @@ fn is_taken(name: &Name) -> bool
     ensures { IsTrue result ↔ IsTaken name.now }
 {
     let bytes = name.bytes();
-    bytes == b"QObject".as_slice()
-        || bytes == b"int".as_slice()
-        || bytes == b"bool".as_slice()
-        || bytes == b"QString".as_slice()
+    bytes == b"QObject".as_slice() || is_value_name(bytes)
 }
 
 /// The first method with two parameters of one name, or native with a name that appears twice in one of its lists; or

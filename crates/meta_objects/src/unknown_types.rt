@@ -10,7 +10,7 @@ ghost use Rattle.class_outlines.specs.declared.fault.MetaFault.TheVariants as fa
 ghost use Rattle.syntax_trees.specs.declared.program.Signal.{Signal as ASignal};
 ghost use Rattle.syntax_trees.specs.declared.program.Slot.{Slot as ASlot};
 
-use basic_types::QType;
+use basic_types::{QType, is_value_name};
 use class_outlines::{
     Breach, ClassTable, Declaration, Member, Offence, Reason, Unfit, kind_of,
     names_before_parameter,
@@ -110,9 +110,10 @@ fn unknown(outlines: &ClassTable, kind: &QType, name: usize) -> Option<Breach>
 /// What is wrong with a type that isn't there.
 fn unfit_of(outlines: &ClassTable, kind: &QType) -> Unfit {
     if kind.pointer {
-        match kind.name.bytes() {
-            b"int" | b"bool" | b"QString" => Unfit::PointerToValue,
-            _ => Unfit::PointerToNothing,
+        if is_value_name(kind.name.bytes()) {
+            Unfit::PointerToValue
+        } else {
+            Unfit::PointerToNothing
         }
     } else if outlines.place_of(&kind.name).is_some() {
         Unfit::ClassAlone

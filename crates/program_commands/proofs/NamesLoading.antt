@@ -1,6 +1,6 @@
 -- The names of what is loaded.
 use Rattle.std.{proofs.Common.{◌≡◌, ◌≢◌, ◌∙◌, ℕ, zero, suc, ◌<◌, Bool, true, false, ◌&&◌, nat_eq, List, [], ◌∷◌, ◌++◌, length, slice_get, Some, codes, refl, sym, ap, subst, arith}, specs.List.{AllByRecursion, AllZip}, proofs.lemmas.Bool.{eq-eqb, false≢true}, proofs.lemmas.List.Elements.{All-from_recursion}, proofs.lemmas.Option.{same_Some, none-some, slice_get_within}}
-use Rattle.basic_types.specs.{Laws.{IsNormalSig}, Name.{is_name_byte}, Signatures.{IsFreeName}, Words.{IsFree, word_spelling}}
+use Rattle.basic_types.specs.{Laws.{IsNormalSig}, Name.{is_name_byte}, Signatures.{IsFreeName}, Types.{text_name}, Words.{IsFree, word_spelling}}
 use Rattle.basic_types.specs.declared.word.Word.TheVariants as word
 use Rattle.syntax_trees.specs.{declared.program.Property.{Property}, declared.program.Signal.{Signal}, declared.program.Slot.{Slot}, declared.program.Class.{Class}, declared.program.Program.{Program}}
 use Rattle.meta_model.specs.{declared.object.MetaMethod.{MetaMethod}, declared.object.MetaProperty.{MetaProperty}, declared.object.MetaObject.{MetaObject}, Loaded.{Loaded}, Members.{IsClass}, QObject.{sig_of}, Root.{root_class}}
@@ -55,12 +55,12 @@ qobject_free = record { name = (refl, All-from_recursion (λ b. is_name_byte b �
     free word.Class = differs (codes "QObject") (codes "class") refl
     free w = differs (codes "QObject") (word_spelling w) refl
 
-qstring_free : IsFreeName (codes "QString")
+qstring_free : IsFreeName text_name
 qstring_free = record { name = (refl, All-from_recursion (λ b. is_name_byte b ≡ true) (codes "String") (refl, (refl, (refl, (refl, (refl, (refl, tt))))))); free = free }
   where
-    free : IsFree (codes "QString")
-    free word.Class = differs (codes "QString") (codes "class") refl
-    free w = differs (codes "QString") (word_spelling w) refl
+    free : IsFree text_name
+    free word.Class = differs text_name (codes "class") refl
+    free w = differs text_name (word_spelling w) refl
 
 destroyed_free : IsFreeName (codes "destroyed")
 destroyed_free = record { name = (refl, All-from_recursion (λ b. is_name_byte b ≡ true) (codes "estroyed") (refl, (refl, (refl, (refl, (refl, (refl, (refl, (refl, tt))))))))); free = free }

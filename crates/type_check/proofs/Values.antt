@@ -1,6 +1,6 @@
 -- A typed expression has a value, of the type of what it is given to: from the types by name to those by number.
-use Rattle.std.{proofs.Common.{◌≡◌, ℕ, suc, ◌-◌, arith, Bool, List, [], ◌∷◌, length, slice_get, Option, None, Some, codes, refl, sym, ap, ◌∙◌, subst}, specs.List.{AllZip}, specs.Option.{option_and_then, option_map}, proofs.lemmas.Option.{none-some, same_Some}}
-use Rattle.basic_types.specs.{declared.value.Value.{Value}, declared.qtype.QType.{QType}, Normal.{pointer_type}, Types.{value_type}, Values.{Has as AnyHas, number_has, truth_has, text_has, null_has, object_has}}
+use Rattle.std.{proofs.Common.{◌≡◌, ℕ, suc, ◌-◌, arith, Bool, List, [], ◌∷◌, length, slice_get, Option, None, Some, refl, sym, ap, ◌∙◌, subst}, specs.List.{AllZip}, specs.Option.{option_and_then, option_map}, proofs.lemmas.Option.{none-some, same_Some}}
+use Rattle.basic_types.specs.{declared.value.Value.{Value}, declared.qtype.QType.{QType}, Normal.{pointer_type}, Types.{value_type, int_name, bool_name, text_name}, Values.{Has as AnyHas, number_has, truth_has, text_has, null_has, object_has}}
 use Rattle.basic_types.specs.declared.value.Value.TheVariants as value
 use Rattle.syntax_trees.specs.{declared.syntax.Expr.{Expr}, declared.syntax.Expr.TheViews.{out-Expr, roll-Expr, roll-out-Expr}}
 use Rattle.syntax_trees.specs.declared.syntax.Expr.TheVariants as whole
@@ -108,9 +108,9 @@ module _ (p : Loaded) (sound : IsSound p) (classes : ℕ → Option ℕ) where
       object_has at_own.2 (subst (λ (n : ℕ). Below p n c) (sym lower) (subst (λ (n : ℕ). Below p between.class n) (sym upper) between.below))
 
   from_named : (v : Value) (T : ValueType) (Q : QType) → Named v Q → spelled p T ≡ Some Q → Has p classes v T
-  from_named v type.Int Q has e = of_number v (same_Some _ _ (ap declared_sort (same_Some (value_type (codes "int")) Q e) ∙ has_sort v Q has))
-  from_named v type.Bool Q has e = of_truth v (same_Some _ _ (ap declared_sort (same_Some (value_type (codes "bool")) Q e) ∙ has_sort v Q has))
-  from_named v type.Text Q has e = of_text v (same_Some _ _ (ap declared_sort (same_Some (value_type (codes "QString")) Q e) ∙ has_sort v Q has))
+  from_named v type.Int Q has e = of_number v (same_Some _ _ (ap declared_sort (same_Some (value_type int_name) Q e) ∙ has_sort v Q has))
+  from_named v type.Bool Q has e = of_truth v (same_Some _ _ (ap declared_sort (same_Some (value_type bool_name) Q e) ∙ has_sort v Q has))
+  from_named v type.Text Q has e = of_text v (same_Some _ _ (ap declared_sort (same_Some (value_type text_name) Q e) ∙ has_sort v Q has))
   from_named v (type.Reference c k) Q has e =
       let s = spelled_at (slice_get p.classes c) k Q e in
       of_reference v c k s.0 s.1 (subst (λ (t : QType). Named v t) (sym s.2) has) (same_Some _ _ (ap declared_sort s.2 ∙ has_sort v Q has))

@@ -1,9 +1,9 @@
 -- The types of a loaded program by their names (docs/language.md, "Types").
-use Rattle.std.specs.Prelude.{◌≡◌, ℕ, List, Option, Some, slice_get, codes}
+use Rattle.std.specs.Prelude.{◌≡◌, ℕ, List, Option, Some, slice_get}
 use Rattle.std.specs.Option.{option_map}
 use Rattle.basic_types.specs.declared.qtype.QType.{QType}
 use Rattle.basic_types.specs.Normal.{pointer_type}
-use Rattle.basic_types.specs.Types.{value_type}
+use Rattle.basic_types.specs.Types.{value_type, int_name, bool_name, text_name}
 use Rattle.meta_model.specs.declared.object.MetaObject.{MetaObject}
 use Rattle.meta_model.specs.declared.object.ValueType.{ValueType}
 use Rattle.meta_model.specs.declared.object.ValueType.TheVariants as type
@@ -25,7 +25,7 @@ pub record BelowNamed (p : Loaded) (name base_name : List ℕ) : Type 0 where
 
 -- a type as it is declared, with its class's name
 abbrev pub spelled : Loaded → ValueType → Option QType
-spelled p type.Int = Some (value_type (codes "int"))
-spelled p type.Bool = Some (value_type (codes "bool"))
-spelled p type.Text = Some (value_type (codes "QString"))
+spelled p type.Int = Some (value_type int_name)
+spelled p type.Bool = Some (value_type bool_name)
+spelled p type.Text = Some (value_type text_name)
 spelled p (type.Reference c constant) = option_map (λ (class : MetaObject). pointer_type class.name constant) (slice_get p.classes c)

@@ -1,6 +1,6 @@
 //! Why something isn't typed.
 
-use basic_types::{QType, Value};
+use basic_types::{BOOL, INT, QSTRING, QType, Value};
 use expressions::{ExprType, Names, type_of};
 use meta_model::{Meta, ValueType};
 use std::alloc::{AllocError, Global};
@@ -102,11 +102,15 @@ fn numbered(meta: &Meta, declared: &QType) -> Option<ValueType> {
         let class = meta.class(&declared.name)?;
         return Some(ValueType::Reference(class, declared.constant));
     }
-    match declared.name.bytes() {
-        b"int" => Some(ValueType::Int),
-        b"bool" => Some(ValueType::Bool),
-        b"QString" => Some(ValueType::Text),
-        _ => None,
+    let name = declared.name.bytes();
+    if name == INT {
+        Some(ValueType::Int)
+    } else if name == BOOL {
+        Some(ValueType::Bool)
+    } else if name == QSTRING {
+        Some(ValueType::Text)
+    } else {
+        None
     }
 }
 

@@ -5,7 +5,7 @@ ghost use Rattle.basic_types.specs.Name.{IsName};
 ghost use Rattle.basic_types.specs.Types.{value_type};
 ghost use Rattle.type_check.specs.Naming.{spelled};
 
-use basic_types::{Name, QType};
+use basic_types::{BOOL, INT, Name, QSTRING, QType};
 use expressions::Classes;
 use meta_model::{Meta, ValueType};
 use std::alloc::{AllocError, Global};
@@ -40,9 +40,9 @@ pub fn spelled(alloc: Global, meta: &Meta, kind: ValueType) -> Result<Option<QTy
     ensures { IfOk result (λ found. found ≡ spelled meta.now kind) }
 {
     let (class, constant) = match kind {
-        ValueType::Int => return value_type(alloc, b"int"),
-        ValueType::Bool => return value_type(alloc, b"bool"),
-        ValueType::Text => return value_type(alloc, b"QString"),
+        ValueType::Int => return value_type(alloc, INT),
+        ValueType::Bool => return value_type(alloc, BOOL),
+        ValueType::Text => return value_type(alloc, QSTRING),
         ValueType::Reference(class, constant) => (class, constant),
     };
     let Some(class) = meta.object(class) else {

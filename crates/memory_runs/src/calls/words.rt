@@ -2,7 +2,7 @@
 
 use crate::once_or_twice;
 use crate::trials::{ReportBuffer, TrialAnswer};
-use basic_types::{LONGEST_TEXT, Name, QType, Sig, Text, Value};
+use basic_types::{INT, LONGEST_TEXT, Name, QSTRING, QType, Sig, Text, Value};
 use signatures::{SigFault, normalise};
 use slot_lang::{EvalFault, Expr, ExprType, Names, Path, World, eval, parse_expr, tokens, type_of};
 use std::alloc::{AllocError, Global};
@@ -103,7 +103,7 @@ impl World<Path> for Everywhere {
 
 /// Paths of the type `int` to this number.
 fn int_paths(alloc: Global, number: i32) -> Option<Everywhere> {
-    let kind = QType::value(Name::new(alloc, b"int").ok()?);
+    let kind = QType::value(Name::new(alloc, INT).ok()?);
     Some(Everywhere {
         kind,
         value: Value::Int(number),
@@ -112,7 +112,7 @@ fn int_paths(alloc: Global, number: i32) -> Option<Everywhere> {
 
 /// Paths of the type `QString` to a text of 255 bytes.
 fn text_paths(alloc: Global) -> Option<Everywhere> {
-    let kind = QType::value(Name::new(alloc, b"QString").ok()?);
+    let kind = QType::value(Name::new(alloc, QSTRING).ok()?);
     let value = text_value(alloc, &[b'x'; LONGEST_TEXT])?;
     Some(Everywhere { kind, value })
 }

@@ -1,12 +1,12 @@
 //! What the native is for, and what it does.
 
 ghost use Rattle.std.specs.Prelude.{◌≡◌, [], ◌∷◌, IfOk, IsTrue, codes};
-ghost use Rattle.basic_types.specs.Types.{value_type};
+ghost use Rattle.basic_types.specs.Types.{int_name, value_type};
 ghost use Rattle.native_slots.specs.Effects.{are_within};
 ghost use Rattle.native_slots.specs.Doubling.{doubling};
 
 use crate::{Action, Effects, PlainProperty, PlainSignal, PlainType};
-use basic_types::{Arguments, Name, QType, Sig, Value};
+use basic_types::{Arguments, INT, Name, QType, Sig, Value};
 use sqlite_items::Items;
 use std::alloc::{AllocError, Global};
 
@@ -19,10 +19,10 @@ pub fn class(alloc: Global) -> Result<Name, AllocError>
 
 /// Its signature there, `twice(int)`.
 pub fn twice(alloc: Global) -> Result<Sig, AllocError>
-    ensures { IfOk result (λ sig. sig ≡ record { name = codes "twice"; types = value_type (codes "int") ∷ [] }) }
+    ensures { IfOk result (λ sig. sig ≡ record { name = codes "twice"; types = value_type int_name ∷ [] }) }
 {
     let name = Name::new(alloc, b"twice")?;
-    let int = Name::new(alloc, b"int")?;
+    let int = Name::new(alloc, INT)?;
     let mut types = Items::new(alloc);
     types.push(QType::value(int))?;
     Sig::new(alloc, name, types)
