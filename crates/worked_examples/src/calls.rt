@@ -1,10 +1,11 @@
 //! What only direct calls show: a native of one's own, a machine event by event, readers and writers that fail, what binds
-//! and writes evaluate, inputs that are too large for a file, what texts stand for, what leads to what, and the stores beside plain
-//! lists of what they hold. What has to be written was worked out by hand from the documents.
+//! and writes evaluate, inputs that are too large for a file, what texts stand for, what leads to what, and what memory the stores
+//! hold. What has to be written was worked out by hand from the documents.
 
 mod checking;
 mod command_line;
 mod following;
+mod holding;
 mod loading;
 mod machines;
 mod reading;
@@ -15,10 +16,10 @@ mod streams;
 mod task;
 mod thermostat;
 
-use crate::stores::tell_stores;
 use anyhow::Result;
 use checking::tell_checking;
 use following::tell_following;
+use holding::tell_holding;
 use machines::tell_machines;
 use reading::tell_reading;
 use runs::tell_runs;
@@ -36,6 +37,6 @@ pub fn tell_calls<R: Print + AllocGlobal>(rt: &R) -> Result<()> {
     tell_sizes(rt)?;
     tell_reading(rt)?;
     tell_checking(rt)?;
-    tell_stores(rt)?;
+    tell_holding(rt)?;
     Ok(())
 }

@@ -2,6 +2,5 @@
 #![tactic(auto)]
 
 mod calls;
-mod stores;
 
 pub use calls::tell_calls;
