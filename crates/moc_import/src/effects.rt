@@ -12,7 +12,7 @@ mod signatures;
 mod slots;
 mod statements;
 
-use crate::classes::{Import, Placed, push_plain};
+use crate::classes::{Import, Placed};
 use crate::effects::fault::EffectFault;
 use crate::effects::line::EffectLine;
 use crate::effects::lookup::Lookup;
@@ -54,29 +54,36 @@ struct GivenBody<'e> {
 
 impl<'e> GivenBodies<'e> {
     /// The bodies that the lines give what is imported. A line for a class that is read and not imported gives none.
-    pub fn of<'i>(
+    pub fn of(
         alloc: Global,
-        import: &'i Import<'_>,
+        import: &Import<'_>,
         lines: &'e [NumberedLine<'_>],
-    ) -> Result<GivenBodies<'e>, AllocError>
-    where
-        'e: 'i,
-    {
+    ) -> Result<GivenBodies<'e>, AllocError> {
         let mut effects = GivenBodies {
             bodies: Vec::new(alloc),
             mistakes: Vec::new(alloc),
         };
-        let lookup = Lookup { import };
+        effects.push_lines(alloc, Lookup { import }, lines)?;
+        Ok(effects)
+    }
+
+    /// Adds the bodies that the lines give.
+    fn push_lines(
+        &mut self,
+        alloc: Global,
+        lookup: Lookup<'_, '_>,
+        lines: &'e [NumberedLine<'_>],
+    ) -> Result<(), AllocError> {
         for line in lines {
-            if effects.mistakes.len() >= MOST_TOLD {
+            if self.mistakes.len() >= MOST_TOLD {
                 break;
             }
             match &line.read {
-                Ok(read) => effects.push_line(alloc, lookup, line.number, read)?,
-                Err(fault) => effects.note(alloc, line.number, EffectFault::Unread(*fault))?,
+                Ok(read) => self.push_line(alloc, lookup, line.number, read)?,
+                Err(fault) => self.note(line.number, EffectFault::of(alloc, &fault.parts()))?,
             }
         }
-        Ok(effects)
+        Ok(())
     }
 
     /// Whether nothing is wrong with the lines; else not all bodies are there.
@@ -107,24 +114,33 @@ impl<'e> GivenBodies<'e> {
     }
 
     /// Adds the body that a line gives.
-    fn push_line<'i>(
+    fn push_line(
         &mut self,
         alloc: Global,
-        lookup: Lookup<'i, '_>,
+        lookup: Lookup<'_, '_>,
         number: usize,
         line: &'e EffectLine<'_>,
-    ) -> Result<(), AllocError>
-    where
-        'e: 'i,
-    {
-        let slot = match slot_of(alloc, lookup, line) {
-            Ok(Some(slot)) => slot,
-            Ok(None) => return Ok(()),
-            Err(fault) => return self.note(alloc, number, fault),
-        };
+    ) -> Result<(), AllocError> {
+        match slot_of(alloc, lookup, line) {
+            Ok(Some(slot)) => self.push_body(alloc, lookup, slot, number, line),
+            Ok(None) => Ok(()),
+            Err(fault) => self.note(number, fault),
+        }
+    }
+
+    /// Adds the body that a line gives this slot.
+    fn push_body(
+        &mut self,
+        alloc: Global,
+        lookup: Lookup<'_, '_>,
+        slot: Placed<'_, '_>,
+        number: usize,
+        line: &'e EffectLine<'_>,
+    ) -> Result<(), AllocError> {
         if let Some(first) = self.body(slot.class, slot.place) {
-            let fault = EffectFault::Twice(first.line);
-            return self.note(alloc, number, fault);
+            let first = first.line;
+            let text = format!(in alloc; "line {first} has this slot already")?;
+            return self.note(number, EffectFault::Told(text));
         }
         let statements = self.statements_of(alloc, lookup, slot, number, line)?;
         self.bodies.push(GivenBody {
@@ -137,17 +153,14 @@ impl<'e> GivenBodies<'e> {
     }
 
     /// The statements that a line gives its slot.
-    fn statements_of<'i>(
+    fn statements_of(
         &mut self,
         alloc: Global,
-        lookup: Lookup<'i, '_>,
+        lookup: Lookup<'_, '_>,
         slot: Placed<'_, '_>,
         number: usize,
         line: &'e EffectLine<'_>,
-    ) -> Result<Vec<GivenStatement<'e>>, AllocError>
-    where
-        'e: 'i,
-    {
+    ) -> Result<Vec<GivenStatement<'e>>, AllocError> {
         let mut statements = Vec::new(alloc);
         for effect in line.effects.as_slice() {
             if self.mistakes.len() >= MOST_TOLD {
@@ -155,32 +168,18 @@ impl<'e> GivenBodies<'e> {
             }
             match statement(alloc, lookup, slot, effect) {
                 Ok(statement) => statements.push(statement)?,
-                Err(fault) => self.note(alloc, number, fault)?,
+                Err(fault) => self.note(number, fault)?,
             }
         }
         Ok(statements)
     }
 
     /// Notes what is wrong with a line.
-    fn note(
-        &mut self,
-        alloc: Global,
-        line: usize,
-        fault: EffectFault<'_, '_>,
-    ) -> Result<(), AllocError> {
-        if matches!(fault, EffectFault::Memory) {
-            return Err(AllocError);
+    fn note(&mut self, line: usize, fault: EffectFault) -> Result<(), AllocError> {
+        match fault {
+            EffectFault::Told(text) => self.mistakes.push(LineMistake { line, text })?,
+            EffectFault::Memory => return Err(AllocError),
         }
-        let text = told(alloc, fault)?;
-        self.mistakes.push(LineMistake { line, text })?;
         Ok(())
     }
-}
-
-/// What is said of a fault.
-fn told(alloc: Global, fault: EffectFault<'_, '_>) -> Result<String, AllocError> {
-    let told = format!(in alloc; "{fault}")?;
-    let mut text = String::new(alloc);
-    push_plain(&mut text, told.as_str())?;
-    Ok(text)
 }

@@ -21,7 +21,7 @@ const MOST_EFFECTS_BYTES: usize = 1_048_576;
 const MOST_LINES: usize = 16384;
 
 /// What is asked for.
-#[derive(Clone, Copy, Debug)]
+#[derive(Clone, Copy)]
 pub struct ImportOptions<'w> {
     /// These classes and their bases alone, by their names with their scope or without; all classes where none is named.
     pub only: &'w [&'w str],

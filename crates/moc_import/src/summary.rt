@@ -4,7 +4,7 @@ use crate::classes::{Import, LeftOut, MethodSort, MissingMember, Placed};
 use crate::effects::GivenBodies;
 
 /// How much was imported, and how much was left out.
-#[derive(Clone, Copy, Debug, Default, PartialEq, Eq)]
+#[derive(Clone, Copy, Default)]
 pub struct Summary {
     pub classes: usize,
     pub properties: usize,

@@ -2,7 +2,7 @@
 
 use crate::bodies::push_body;
 use crate::classes::{
-    Catalogue, Import, ImportedParameter, ImportedProperty, LanguageType, LeftOut, Listed, Mapped,
+    Catalogue, Import, ImportedParameter, ImportedProperty, LanguageType, Listed, Mapped,
     MethodSort, MissingMember, MocMethod, NoClass, Placed, QOBJECT, full_name, is_free, push_parts,
     push_plain,
 };
@@ -49,7 +49,7 @@ fn push_classes(
         }
         push_class(text, alloc, import, effects, number, *listed)?;
         let missing = import.missing.get(told..).unwrap_or(&[]);
-        told = told.saturating_add(push_all_missing(text, alloc, number, missing)?);
+        told = told.saturating_add(push_all_missing(text, number, missing)?);
         text.push_str("}\n")?;
     }
     Ok(())
@@ -58,7 +58,6 @@ fn push_classes(
 /// Adds the members of the class that are left out, which stand first among these, and answers how many they are.
 fn push_all_missing(
     text: &mut String,
-    alloc: Global,
     number: usize,
     missing: &[(usize, MissingMember<'_>)],
 ) -> Result<usize, AllocError> {
@@ -67,7 +66,7 @@ fn push_all_missing(
         if *class != number {
             break;
         }
-        push_missing(text, alloc, *member)?;
+        push_missing(text, *member)?;
         count = count.saturating_add(1);
     }
     Ok(count)
@@ -281,11 +280,7 @@ fn is_among(name: &str, names: &[String]) -> bool {
 }
 
 /// Adds a member that is left out, and why.
-fn push_missing(
-    text: &mut String,
-    alloc: Global,
-    member: MissingMember<'_>,
-) -> Result<(), AllocError> {
+fn push_missing(text: &mut String, member: MissingMember<'_>) -> Result<(), AllocError> {
     let why = match member {
         MissingMember::Property(moc, why) => {
             text.push_str("    // left out: property ")?;
@@ -298,15 +293,10 @@ fn push_missing(
             why
         }
     };
-    text.push_str(": ")?;
-    push_why(text, alloc, why)?;
+    let [why, kind] = why.parts();
+    push_parts(text, &[": ", why])?;
+    push_plain(text, kind)?;
     text.push_str("\n")
-}
-
-/// Adds why a member is left out.
-fn push_why(text: &mut String, alloc: Global, why: LeftOut<'_>) -> Result<(), AllocError> {
-    let why = format!(in alloc; "{why}")?;
-    push_plain(text, why.as_str())
 }
 
 /// Adds a method as it is in C++.

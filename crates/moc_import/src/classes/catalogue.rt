@@ -1,12 +1,12 @@
 //! The classes that are imported, by number: bases stand before the classes that have them.
 
 use crate::classes::class_names::MocClassNames;
-use crate::classes::kinds::QSTRING;
 use crate::classes::listing::Listing;
 use crate::classes::members::is_free;
 use crate::classes::moc::{MocClass, MocFile};
 use crate::classes::read_classes::ReadClasses;
 use crate::classes::scopes::{full_name, nearer, nearness};
+use basic_types::is_value_name;
 use std::alloc::{AllocError, Global};
 
 /// The class of which all others are.
@@ -171,5 +171,5 @@ impl<'f> Catalogue<'f> {
 
 /// Whether a program may declare a class of this name.
 pub fn may_be_class(name: &str) -> bool {
-    is_free(name) && !matches!(name, QOBJECT | "int" | "bool" | QSTRING)
+    is_free(name) && name != QOBJECT && !is_value_name(name.as_bytes())
 }

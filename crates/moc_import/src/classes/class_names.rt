@@ -2,26 +2,26 @@
 
 use crate::classes::moc::MocClass;
 use crate::classes::scopes::{full_name, last_part, own_name};
-use indexmap::IndexMap;
 use std::alloc::{AllocError, Global};
+use std::collections::HashMap;
 
 /// Places in a list, by names.
 #[derive(Drop)]
 pub struct NamedPlaces<'f> {
-    places: IndexMap<&'f [u8], Vec<usize>>,
+    places: HashMap<&'f str, Vec<usize>>,
 }
 
 impl<'f> NamedPlaces<'f> {
     /// Nothing has a place yet.
     pub fn new(alloc: Global) -> NamedPlaces<'f> {
         NamedPlaces {
-            places: IndexMap::new(alloc),
+            places: HashMap::new(alloc),
         }
     }
 
     /// The places that have the name, in the order in which they were added.
     pub fn of(&self, name: &str) -> &[usize] {
-        match self.places.get(name.as_bytes()) {
+        match self.places.get(name) {
             Some(places) => places.as_slice(),
             None => &[],
         }
@@ -29,10 +29,7 @@ impl<'f> NamedPlaces<'f> {
 
     /// Gives a place the name.
     pub fn add(&mut self, alloc: Global, name: &'f str, place: usize) -> Result<(), AllocError> {
-        let places = self
-            .places
-            .entry(name.as_bytes())?
-            .or_insert(Vec::new(alloc));
+        let places = self.places.entry(name)?.or_insert(Vec::new(alloc));
         places.push(place)?;
         Ok(())
     }

@@ -3,7 +3,7 @@
 use crate::classes::catalogue::Catalogue;
 
 /// The type of texts.
-pub const QSTRING: &str = "QString";
+const QSTRING: &str = "QString";
 
 /// A type of the language.
 #[derive(Clone, Copy, PartialEq, Eq)]

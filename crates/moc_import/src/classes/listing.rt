@@ -5,8 +5,8 @@ use crate::classes::class_names::{MocClassNames, NamedPlaces};
 use crate::classes::moc::MocClass;
 use crate::classes::read_classes::ReadClasses;
 use crate::classes::scopes::{full_name, is_called, nearer, nearness, own_name};
-use indexmap::IndexMap;
 use std::alloc::{AllocError, Global};
+use std::collections::HashMap;
 
 /// The classes that are imported, with their names, and those that are left out.
 #[derive(Drop)]
@@ -14,7 +14,7 @@ pub struct Listing<'f> {
     pub classes: Vec<Listed<'f>>,
     pub names: Vec<String>,
     /// The numbers of the classes by these names.
-    pub named: IndexMap<String, usize>,
+    pub named: HashMap<String, usize>,
     pub left_out: Vec<(&'f MocClass, NoClass)>,
     /// The numbers of the classes by their names in C++ with their scopes.
     by_full_name: NamedPlaces<'f>,
@@ -174,7 +174,7 @@ fn listing_of<'f>(
     let mut listing = Listing {
         classes: Vec::new(alloc),
         names: Vec::new(alloc),
-        named: IndexMap::new(alloc),
+        named: HashMap::new(alloc),
         left_out: Vec::new(alloc),
         by_full_name: NamedPlaces::new(alloc),
     };

@@ -5,26 +5,33 @@ use crate::classes::kinds::{LanguageType, Mapped, mapped_type};
 use crate::classes::moc::{MocArgument, MocMethod, MocProperty};
 use basic_types::{MOST_PARAMETERS, Word, is_name};
 use std::alloc::{AllocError, Global};
-use thiserror::Error;
 
 /// Why a member is left out.
-#[derive(Clone, Copy, Debug, Error)]
+#[derive(Clone, Copy)]
 pub enum LeftOut<'f> {
     /// The language has nothing for this type.
-    #[error("there is nothing for {0}")]
     Type(&'f str),
     /// A base has the member already.
-    #[error("a base has it")]
     Inherited,
     /// The class has a method of this name with as many parameters.
-    #[error("another has its name and as many parameters")]
     Overload,
     /// The name is a word of the language, or no name of it.
-    #[error("its name is a word of the language")]
     Name,
     /// It has more parameters than a method may have.
-    #[error("it has more than 8 parameters")]
     Parameters,
+}
+
+impl<'f> LeftOut<'f> {
+    /// The parts of what a person is told of it.
+    pub fn parts(self) -> [&'f str; 2] {
+        match self {
+            LeftOut::Type(kind) => ["there is nothing for ", kind],
+            LeftOut::Inherited => ["a base has it", ""],
+            LeftOut::Overload => ["another has its name and as many parameters", ""],
+            LeftOut::Name => ["its name is a word of the language", ""],
+            LeftOut::Parameters => ["it has more than 8 parameters", ""],
+        }
+    }
 }
 
 /// What a method is.

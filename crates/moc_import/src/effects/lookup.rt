@@ -3,12 +3,14 @@
 use crate::classes::{
     Catalogue, Import, ImportedMethod, LanguageType, LeftOut, Members, MissingMember,
 };
-use crate::effects::fault::{EffectFault, MemberFault, NoMember};
-use crate::effects::near::{NearName, NearestName};
+use crate::effects::fault::EffectFault;
+use crate::effects::near::NearestName;
 use std::alloc::{AllocError, Global};
 
 /// The property that every object has.
 const OBJECT_NAME: &str = "objectName";
+
+const CONST_POINTER: &str = "a pointer to a `const` object, which nobody calls, writes or deletes";
 
 /// What is imported, in which names are looked up.
 #[derive(Clone, Copy)]
@@ -62,19 +64,14 @@ impl<'i, 'f> Lookup<'i, 'f> {
     }
 
     /// The type of what a path leads to from an object of the class.
-    fn kind_of(
-        self,
-        alloc: Global,
-        class: usize,
-        path: &'i str,
-    ) -> Result<LanguageType, EffectFault<'i, 'f>> {
+    fn kind_of(self, alloc: Global, class: usize, path: &str) -> Result<LanguageType, EffectFault> {
         let mut kind = LanguageType::Object(Some(class));
         if path == "this" {
             return Ok(kind);
         }
         for name in path.split('.') {
             let (LanguageType::Object(at) | LanguageType::ConstObject(at)) = kind else {
-                return Err(EffectFault::NoPointer(path));
+                return Err(no_pointer(alloc, path));
             };
             kind = self.property(alloc, at, name)?;
         }
@@ -86,14 +83,14 @@ impl<'i, 'f> Lookup<'i, 'f> {
         self,
         alloc: Global,
         class: usize,
-        path: &'i str,
-    ) -> Result<Option<usize>, EffectFault<'i, 'f>> {
+        path: &str,
+    ) -> Result<Option<usize>, EffectFault> {
         match self.kind_of(alloc, class, path)? {
             LanguageType::Object(found) => Ok(found),
-            LanguageType::ConstObject(_) => Err(EffectFault::ConstPointer(path)),
-            LanguageType::Int | LanguageType::Bool | LanguageType::Text => Err(
-                EffectFault::NoPointer(path),
-            ),
+            LanguageType::ConstObject(_) => Err(EffectFault::of_name(alloc, path, CONST_POINTER)),
+            LanguageType::Int | LanguageType::Bool | LanguageType::Text => Err(no_pointer(
+                alloc, path,
+            )),
         }
     }
 
@@ -102,8 +99,8 @@ impl<'i, 'f> Lookup<'i, 'f> {
         self,
         alloc: Global,
         class: Option<usize>,
-        name: &'i str,
-    ) -> Result<LanguageType, EffectFault<'i, 'f>> {
+        name: &str,
+    ) -> Result<LanguageType, EffectFault> {
         if name == OBJECT_NAME {
             return Ok(LanguageType::Text);
         }
@@ -131,26 +128,33 @@ impl<'i, 'f> Lookup<'i, 'f> {
         None
     }
 
-    /// Why there is no such member.
+    /// That there is no such member, and why.
     pub fn no_member(
         self,
         alloc: Global,
         sought: SoughtMember<'i>,
-    ) -> Result<EffectFault<'i, 'f>, AllocError> {
-        let why = match self.why_left_out(sought) {
-            Some(why) => NoMember::LeftOut(why),
-            None => NoMember::Unknown(self.near(alloc, sought)?),
-        };
-        Ok(self.member_fault(sought, why))
+    ) -> Result<EffectFault, AllocError> {
+        let class = self.catalogue().name(sought.class);
+        let what = sought.sort.word();
+        let name = sought.name;
+        let why = self.why_not_there(alloc, sought)?;
+        let told = format!(in alloc; "`{class}` has no {what} `{name}`{why}")?;
+        Ok(EffectFault::of(alloc, &[told.as_str()]))
     }
 
-    /// That the member isn't found, for this reason.
-    pub fn member_fault(self, sought: SoughtMember<'i>, why: NoMember<'i>) -> EffectFault<'i, 'f> {
-        EffectFault::Member(MemberFault {
-            lookup: self,
-            sought,
-            why,
-        })
+    /// Why there is no such member, or which may have been meant, to be told behind its name.
+    fn why_not_there(self, alloc: Global, sought: SoughtMember<'i>) -> Result<String, AllocError> {
+        match self.why_left_out(sought) {
+            Some(left_out) => {
+                let [why, kind] = left_out.parts();
+                format!(in alloc; " here: {why}{kind}")
+            }
+            None => {
+                let nearest = self.nearest(alloc, sought)?;
+                let [before, meant, behind] = nearest.question();
+                format!(in alloc; "{before}{meant}{behind}")
+            }
+        }
     }
 
     /// Why the member is left out, if it is.
@@ -170,7 +174,11 @@ impl<'i, 'f> Lookup<'i, 'f> {
     }
 
     /// Which member of the class and its bases may have been meant.
-    fn near(self, alloc: Global, sought: SoughtMember<'i>) -> Result<NearName<'i>, AllocError> {
+    fn nearest(
+        self,
+        alloc: Global,
+        sought: SoughtMember<'i>,
+    ) -> Result<NearestName<'i>, AllocError> {
         let mut nearest = NearestName::to(sought.name);
         if sought.sort == SoughtSort::Property {
             nearest.look_at(alloc, OBJECT_NAME)?;
@@ -190,8 +198,13 @@ impl<'i, 'f> Lookup<'i, 'f> {
             }
             at = self.catalogue().base(number);
         }
-        Ok(nearest.name())
+        Ok(nearest)
     }
+}
+
+/// The fault of a path that has to lead to an object.
+fn no_pointer(alloc: Global, path: &str) -> EffectFault {
+    EffectFault::of_name(alloc, path, "no pointer to an object")
 }
 
 /// Looks at the names of the properties of a class.

@@ -1,12 +1,17 @@
 //! Which signals and slots effects name.
 
 use crate::classes::{ImportedMethod, mapped_type};
-use crate::effects::fault::{EffectFault, NoMember};
+use crate::effects::fault::EffectFault;
 use crate::effects::lookup::{Lookup, SoughtMember, SoughtSort};
+use crate::effects::signatures::push_signature;
 use std::alloc::{AllocError, Global};
 
 /// The slot that every object has.
 const DELETE_LATER: &str = "deleteLater";
+
+const RUNTIME_SIGNAL: &str = "a signal of `QObject`, which the runtime alone emits";
+
+const CALLED_SIGNAL: &str = "a signal, which nobody calls: a slot of its class may emit it";
 
 impl<'i, 'f> Lookup<'i, 'f> {
     /// The signal or slot that is sought: where types are given the one with these, else the only one of the name. It is `None`
@@ -14,15 +19,15 @@ impl<'i, 'f> Lookup<'i, 'f> {
     pub fn method(
         self,
         alloc: Global,
-        sought: SoughtMember<'i>,
+        sought: SoughtMember<'_>,
         types: Option<&[&str]>,
-    ) -> Result<Option<&'i ImportedMethod<'f>>, EffectFault<'i, 'f>> {
+    ) -> Result<Option<&'i ImportedMethod<'f>>, EffectFault> {
         if is_delete_later(sought, types) {
             return Ok(None);
         }
         let (found, count) = self.found(sought, types);
         if count > 1 {
-            return Err(self.member_fault(sought, NoMember::Several));
+            return Err(self.several(alloc, sought)?);
         }
         match found {
             Some(method) => Ok(Some(method)),
@@ -75,25 +80,89 @@ impl<'i, 'f> Lookup<'i, 'f> {
         left.is_empty()
     }
 
-    /// Why none of the signals or slots is the one that is sought.
-    fn no_method(
+    /// That more signals or slots than one have the name.
+    fn several(self, alloc: Global, sought: SoughtMember<'_>) -> Result<EffectFault, AllocError> {
+        let class = self.catalogue().name(sought.class);
+        let there = self.signatures(alloc, sought)?;
+        Ok(EffectFault::of(
+            alloc,
+            &[
+                "which `",
+                sought.name,
+                "` of `",
+                class,
+                "`? It has ",
+                there.as_str(),
+            ],
+        ))
+    }
+
+    /// That none of the signals or slots of the name has the types that are given.
+    fn other_types(
         self,
         alloc: Global,
-        sought: SoughtMember<'i>,
-    ) -> Result<EffectFault<'i, 'f>, AllocError> {
+        sought: SoughtMember<'_>,
+    ) -> Result<EffectFault, AllocError> {
+        let class = self.catalogue().name(sought.class);
+        let what = sought.sort.word();
+        let name = sought.name;
+        let there = self.signatures(alloc, sought)?;
+        let told = format!(in alloc;
+            "`{class}` has no {what} `{name}` of these types: it has {there}"
+        )?;
+        Ok(EffectFault::of(alloc, &[told.as_str()]))
+    }
+
+    /// The signatures of all signals, or all slots, of the name, with commas between them.
+    fn signatures(self, alloc: Global, sought: SoughtMember<'_>) -> Result<String, AllocError> {
+        let mut text = String::new(alloc);
+        self.push_signatures(&mut text, sought)?;
+        Ok(text)
+    }
+
+    /// Adds the signatures of all signals, or all slots, of the name.
+    fn push_signatures(
+        self,
+        text: &mut String,
+        sought: SoughtMember<'_>,
+    ) -> Result<(), AllocError> {
+        let mut before = "`";
+        let mut at = sought.class;
+        for _ in 0..self.catalogue().classes().len() {
+            let Some(class) = at else {
+                break;
+            };
+            let Some(own) = self.import.members.get(class) else {
+                break;
+            };
+            for method in own.methods.as_slice() {
+                if sought.is_called_as(method) {
+                    text.push_str(before)?;
+                    push_signature(text, self.catalogue(), method)?;
+                    text.push_str("`")?;
+                    before = ", `";
+                }
+            }
+            at = self.catalogue().base(class);
+        }
+        Ok(())
+    }
+
+    /// Why none of the signals or slots is the one that is sought.
+    fn no_method(self, alloc: Global, sought: SoughtMember<'_>) -> Result<EffectFault, AllocError> {
         let name = sought.name;
         if self.is_there(sought) {
-            return Ok(self.member_fault(sought, NoMember::OtherTypes));
+            return self.other_types(alloc, sought);
         }
         if sought.sort == SoughtSort::Signal {
             if matches!(name, "destroyed" | "objectNameChanged") {
-                return Ok(EffectFault::RuntimeSignal(name));
+                return Ok(EffectFault::of_name(alloc, name, RUNTIME_SIGNAL));
             }
         } else if self.is_there(SoughtMember {
             sort: SoughtSort::Signal,
             ..sought
         }) {
-            return Ok(EffectFault::CallsSignal(name));
+            return Ok(EffectFault::of_name(alloc, name, CALLED_SIGNAL));
         }
         self.no_member(alloc, sought)
     }

@@ -1,15 +1,10 @@
 //! Which name may have been meant.
 
 use std::alloc::{AllocError, Global};
-use std::fmt;
 use strsim::levenshtein;
 
 /// A name has at most so many bytes to be looked for.
 const LONGEST: usize = 64;
-
-/// The name that may have been meant, if there is one.
-#[derive(Clone, Copy)]
-pub struct NearName<'n>(pub Option<&'n str>);
 
 /// The nearest so far of the names that are looked at, if a few letters make it of the one that is written: one, or a third of
 /// them.
@@ -46,20 +41,11 @@ impl<'n> NearestName<'n> {
         Ok(())
     }
 
-    /// The nearest one of the names.
-    pub fn name(self) -> NearName<'n> {
+    /// The parts of the question whether the nearest one was meant, if there is one.
+    pub fn question(self) -> [&'n str; 3] {
         match self.nearest {
-            Some((name, _)) => NearName(Some(name)),
-            None => NearName(None),
-        }
-    }
-}
-
-impl fmt::Display for NearName<'_> {
-    fn fmt<W: fmt::Write>(&self, f: &mut fmt::Formatter<W>) -> fmt::Result {
-        match self.0 {
-            Some(name) => write!(f, ": did you mean `{name}`?"),
-            None => Ok(()),
+            Some((name, _)) => [": did you mean `", name, "`?"],
+            None => ["", "", ""],
         }
     }
 }

@@ -27,7 +27,7 @@ pub fn lines<'e>(alloc: Global, text: &'e str) -> Result<Vec<NumberedLine<'e>>, 
             continue;
         }
         let read = match line_of(alloc, &mut scanner) {
-            Err(LineFault::Memory(fault)) => return Err(fault),
+            Err(LineFault::Memory) => return Err(AllocError),
             read => read,
         };
         lines.push(NumberedLine {

@@ -1,58 +1,31 @@
 //! Signatures of methods, as they are shown.
 
-use crate::classes::{Catalogue, ImportedMethod};
-use crate::effects::lookup::{Lookup, SoughtMember};
-use std::fmt;
+use crate::classes::{Catalogue, ImportedMethod, push_parts};
+use std::alloc::{AllocError, Global};
 
 /// The signature of a method, with its parameters' types as they are declared.
-#[derive(Clone, Copy)]
-pub struct Signature<'i, 'f> {
-    pub method: &'i ImportedMethod<'f>,
-    pub catalogue: &'i Catalogue<'f>,
+pub fn signature(
+    alloc: Global,
+    catalogue: &Catalogue<'_>,
+    method: &ImportedMethod<'_>,
+) -> Result<String, AllocError> {
+    let mut text = String::new(alloc);
+    push_signature(&mut text, catalogue, method)?;
+    Ok(text)
 }
 
-impl fmt::Display for Signature<'_, '_> {
-    fn fmt<W: fmt::Write>(&self, f: &mut fmt::Formatter<W>) -> fmt::Result {
-        let name = self.method.moc.name.as_str();
-        write!(f, "{name}(")?;
-        let mut comma = "";
-        for parameter in self.method.parameters.as_slice() {
-            let [first, second, third] = parameter.mapped.kind.parts(self.catalogue);
-            write!(f, "{comma}{first}{second}{third}")?;
-            comma = ", ";
-        }
-        write!(f, ")")
+/// Adds the signature of a method.
+pub fn push_signature(
+    text: &mut String,
+    catalogue: &Catalogue<'_>,
+    method: &ImportedMethod<'_>,
+) -> Result<(), AllocError> {
+    push_parts(text, &[method.moc.name.as_str(), "("])?;
+    let mut comma = "";
+    for parameter in method.parameters.as_slice() {
+        let [first, second, third] = parameter.mapped.kind.parts(catalogue);
+        push_parts(text, &[comma, first, second, third])?;
+        comma = ", ";
     }
-}
-
-/// The signatures of all signals, or all slots, that have the name of the one that is sought.
-#[derive(Clone, Copy)]
-pub struct Signatures<'i, 'f> {
-    pub lookup: Lookup<'i, 'f>,
-    pub sought: SoughtMember<'i>,
-}
-
-impl fmt::Display for Signatures<'_, '_> {
-    fn fmt<W: fmt::Write>(&self, f: &mut fmt::Formatter<W>) -> fmt::Result {
-        let catalogue = self.lookup.catalogue();
-        let mut comma = "";
-        let mut at = self.sought.class;
-        for _ in 0..catalogue.classes().len() {
-            let Some(class) = at else {
-                break;
-            };
-            let Some(own) = self.lookup.import.members.get(class) else {
-                break;
-            };
-            for method in own.methods.as_slice() {
-                if self.sought.is_called_as(method) {
-                    let signature = Signature { method, catalogue };
-                    write!(f, "{comma}`{signature}`")?;
-                    comma = ", ";
-                }
-            }
-            at = catalogue.base(class);
-        }
-        Ok(())
-    }
+    text.push_str(")")
 }

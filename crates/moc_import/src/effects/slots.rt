@@ -6,8 +6,8 @@ use crate::classes::{
 use crate::effects::fault::EffectFault;
 use crate::effects::line::{EffectLine, EffectVerb, NumberedLine, split_path};
 use crate::effects::lookup::Lookup;
-use crate::effects::near::{NearName, NearestName};
-use crate::effects::signatures::Signature;
+use crate::effects::near::NearestName;
+use crate::effects::signatures::signature;
 use std::alloc::{AllocError, Global};
 
 /// The slots of the lines, each with its class's number, where that is imported.
@@ -53,67 +53,116 @@ pub fn named_properties<'f>(
 }
 
 /// The slot of a line; `None` where its class is read and not imported.
-pub fn slot_of<'i, 'f, 'e: 'i>(
+pub fn slot_of<'i, 'f>(
     alloc: Global,
     lookup: Lookup<'i, 'f>,
-    line: &'e EffectLine<'_>,
-) -> Result<Option<Placed<'i, 'f>>, EffectFault<'i, 'f>> {
+    line: &EffectLine<'_>,
+) -> Result<Option<Placed<'i, 'f>>, EffectFault> {
     let catalogue = lookup.catalogue();
     let Some(class) = catalogue.number(line.class) else {
         if catalogue.is_read(line.class) {
             return Ok(None);
         }
-        let near = near_class(alloc, catalogue, line.class)?;
-        return Err(EffectFault::NoClass(line.class, near));
+        return Err(no_class(alloc, catalogue, line.class)?);
     };
-    let moc: &'i MocMethod = &line.slot;
-    match parameters_of(alloc, catalogue, class, moc)? {
+    let name = line.slot.name.as_str();
+    match parameters_of(alloc, catalogue, class, &line.slot)? {
         Ok(parameters) => {
-            let slot = own_slot(lookup, class, moc.name.as_str(), parameters.as_slice())?;
+            let slot = own_slot(alloc, lookup, class, name, parameters.as_slice())?;
             Ok(Some(slot))
         }
-        Err(why) => Err(EffectFault::NoSuchSlot(moc.name.as_str(), why)),
+        Err(why) => Err(no_such_slot(alloc, name, why)),
     }
 }
 
-/// The class that may have been meant.
-fn near_class<'i>(
+/// That there is no such class, and which one may have been meant.
+fn no_class(
     alloc: Global,
-    catalogue: &'i Catalogue<'_>,
-    written: &'i str,
-) -> Result<NearName<'i>, AllocError> {
+    catalogue: &Catalogue<'_>,
+    written: &str,
+) -> Result<EffectFault, AllocError> {
     let mut nearest = NearestName::to(written);
     for name in catalogue.class_names() {
         nearest.look_at(alloc, name.as_str())?;
     }
-    Ok(nearest.name())
+    let [before, meant, behind] = nearest.question();
+    Ok(EffectFault::of(
+        alloc,
+        &["there is no class `", written, "`", before, meant, behind],
+    ))
+}
+
+/// That the slot can't be declared, and why.
+fn no_such_slot(alloc: Global, name: &str, why: LeftOut<'_>) -> EffectFault {
+    let [why, kind] = why.parts();
+    EffectFault::of(alloc, &["`", name, "` can't be a slot: ", why, kind])
 }
 
 /// The slot of this name that the class has itself, with parameters of these types.
 fn own_slot<'i, 'f>(
+    alloc: Global,
     lookup: Lookup<'i, 'f>,
     class: usize,
-    name: &'i str,
+    name: &str,
     parameters: &[ImportedParameter<'_>],
-) -> Result<Placed<'i, 'f>, EffectFault<'i, 'f>> {
-    let catalogue = lookup.catalogue();
+) -> Result<Placed<'i, 'f>, EffectFault> {
     // It was added where nothing was in its way; what `QObject` has are no methods of the classes here.
     let Some(slot) = lookup.import.find_method(class, name, parameters.len()) else {
-        return Err(EffectFault::NoSuchSlot(name, LeftOut::Inherited));
+        return Err(no_such_slot(alloc, name, LeftOut::Inherited));
     };
-    let method = slot.method;
-    let there = Signature { method, catalogue };
-    if method.is_signal() {
-        return Err(EffectFault::SlotIsSignal(there));
+    let is_own = slot.class == class && !slot.method.is_signal();
+    if is_own && has_kinds(slot.method, parameters) {
+        return Ok(slot);
     }
+    Err(other_slot(alloc, lookup.catalogue(), class, slot)?)
+}
+
+/// That the slot of the name is another one than that of a line for this class.
+fn other_slot(
+    alloc: Global,
+    catalogue: &Catalogue<'_>,
+    class: usize,
+    slot: Placed<'_, '_>,
+) -> Result<EffectFault, AllocError> {
     let holder = catalogue.name(Some(slot.class));
-    if slot.class != class {
-        return Err(EffectFault::SlotOfBase(there, holder));
-    }
-    if !has_kinds(method, parameters) {
-        return Err(EffectFault::OtherSlot(holder, there));
-    }
-    Ok(slot)
+    let there = signature(alloc, catalogue, slot.method)?;
+    let there = there.as_str();
+    Ok(if slot.method.is_signal() {
+        EffectFault::of(
+            alloc,
+            &[
+                "`",
+                there,
+                "` is a signal: a slot of another name may emit it",
+            ],
+        )
+    } else if slot.class != class {
+        EffectFault::of(
+            alloc,
+            &[
+                "`",
+                there,
+                "` is a slot of the base `",
+                holder,
+                "`: write `",
+                holder,
+                ".",
+                there,
+                "`",
+            ],
+        )
+    } else {
+        EffectFault::of(
+            alloc,
+            &[
+                "`",
+                holder,
+                "` has no slot of these types: it has `",
+                there,
+                "`",
+            ],
+        )
+    })
 }
 
 /// Whether the method's parameters have the types of these.

@@ -1,25 +1,27 @@
 //! Effects as statements.
 
-use crate::classes::{ImportedMethod, ImportedParameter, Placed};
+use crate::classes::{Catalogue, ImportedMethod, ImportedParameter, Placed};
 use crate::effects::body::{GivenStatement, GivenValue, only_value, values};
 use crate::effects::fault::EffectFault;
 use crate::effects::line::{EffectVerb, SlotEffect, split_path};
 use crate::effects::lookup::{Lookup, SoughtMember, SoughtSort};
-use std::alloc::Global;
+use std::alloc::{AllocError, Global};
+
+const OTHER_OBJECT: &str = "of another object: a slot emits signals of its own object alone";
 
 /// The statement that an effect is in the body of this slot.
-pub fn statement<'i, 'f, 'e: 'i>(
+pub fn statement<'e>(
     alloc: Global,
-    lookup: Lookup<'i, 'f>,
+    lookup: Lookup<'_, '_>,
     slot: Placed<'_, '_>,
     effect: &'e SlotEffect<'_>,
-) -> Result<GivenStatement<'e>, EffectFault<'i, 'f>> {
+) -> Result<GivenStatement<'e>, EffectFault> {
     let path: &'e str = effect.path;
     let parameters = slot.method.parameters.as_slice();
     let values = match effect.verb {
         EffectVerb::Emits | EffectVerb::Calls => {
             let method = method(alloc, lookup, slot.class, effect)?;
-            passed(alloc, lookup, method, parameters)?
+            passed(alloc, lookup.catalogue(), method, parameters)?
         }
         EffectVerb::Sets => {
             let (front, name) = split_path(path);
@@ -40,13 +42,13 @@ pub fn statement<'i, 'f, 'e: 'i>(
 }
 
 /// The signal or slot that an effect names, from an object of the class; `None` for the slot that every object has.
-fn method<'i, 'f, 'e: 'i>(
+fn method<'i, 'f>(
     alloc: Global,
     lookup: Lookup<'i, 'f>,
     class: usize,
-    effect: &'e SlotEffect<'_>,
-) -> Result<Option<&'i ImportedMethod<'f>>, EffectFault<'i, 'f>> {
-    let path: &'e str = effect.path;
+    effect: &SlotEffect<'_>,
+) -> Result<Option<&'i ImportedMethod<'f>>, EffectFault> {
+    let path = effect.path;
     let (front, name) = split_path(path);
     let types = match &effect.types {
         Some(types) => Some(types.as_slice()),
@@ -54,7 +56,7 @@ fn method<'i, 'f, 'e: 'i>(
     };
     let sought = if matches!(effect.verb, EffectVerb::Emits) {
         if path != name {
-            return Err(EffectFault::OtherObject(path));
+            return Err(EffectFault::of_name(alloc, path, OTHER_OBJECT));
         }
         SoughtMember {
             class: Some(class),
@@ -72,21 +74,14 @@ fn method<'i, 'f, 'e: 'i>(
 }
 
 /// The values that are passed to the signal or slot.
-fn passed<'i, 'f>(
+fn passed(
     alloc: Global,
-    lookup: Lookup<'i, 'f>,
+    catalogue: &Catalogue<'_>,
     method: Option<&ImportedMethod<'_>>,
     parameters: &[ImportedParameter<'_>],
-) -> Result<Vec<GivenValue>, EffectFault<'i, 'f>> {
+) -> Result<Vec<GivenValue>, AllocError> {
     match method {
-        Some(method) => {
-            Ok(values(
-                alloc,
-                lookup.catalogue(),
-                method.parameters.as_slice(),
-                parameters,
-            )?)
-        }
+        Some(method) => values(alloc, catalogue, method.parameters.as_slice(), parameters),
         None => Ok(Vec::new(alloc)),
     }
 }
