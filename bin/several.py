@@ -160,9 +160,9 @@ def one(front, path: str, own: list[str], it: Round, take) -> int:
 
 
 def told(it: Round, errors: bytes) -> bytes:
-    """What a run tells, where each line says which file it is about."""
+    """What a run tells, where each line says which file it is about, but for those below a place."""
     lines = naming.Naming(it.files, NAME.encode() + b": " + it.shown).whole(errors).splitlines(keepends=True)
-    named = tuple(b"%s:" % name for name in (NAME.encode(), *it.files.values()))
+    named = (b"  | ", b"help: ", *(b"%s:" % name for name in (NAME.encode(), *it.files.values())))
     return b"".join(line if line.startswith(named) else it.shown + b": " + line for line in lines)
 
 

@@ -14,25 +14,26 @@ import schema
 OTHER = {"--json", "--sarif", "--junit", "--rules", "--accept-all"}
 # What lines show in place of a byte that steers a terminal or is no text: SARIF alone has a file's name as it is.
 UNSHOWN = re.compile(r"[\x00-\x1f\x7f\ufffd]")
-LINE = re.compile(r"(.*?):(\d+):(\d+): (error|warning|note): (.*) \[([a-z-]+)\]$")
+# What is found at a member that every object has of `QObject` has a file alone.
+LINE = re.compile(r"(.*?)(?::(\d+):(\d+))?: (error|warning|note): (.*) \[([a-z-]+)\]$")
 
 
 def told_as_text(output):
     found = [LINE.match(line) for line in output.decode().splitlines()]
-    return [(it[6], it[4], it[1], int(it[2]), int(it[3]), it[5]) for it in found if it]
+    return [(it[6], it[4], it[1], *(int(at) if at else None for at in it.group(2, 3)), it[5]) for it in found if it]
 
 
 def told_as_json(output):
-    return [tuple(it[key] for key in ("rule", "severity", "file", "line", "column", "message")) for it in json.loads(output)["findings"]]
+    return [tuple(it.get(key) for key in ("rule", "severity", "file", "line", "column", "message")) for it in json.loads(output)["findings"]]
 
 
 def told_as_sarif(output):
     told = []
     for it in json.loads(output)["runs"][0]["results"]:
         place = it["locations"][0]["physicalLocation"]
-        at, name = place["region"], urllib.parse.unquote(place["artifactLocation"]["uri"])
+        at, name = place.get("region", {}), urllib.parse.unquote(place["artifactLocation"]["uri"])
         message = it["message"]["text"].split("\nhelp: ")[0].replace("{{", "{").replace("}}", "}")
-        told.append((it["ruleId"], it["level"], UNSHOWN.sub("?", name), at["startLine"], at["startColumn"], message))
+        told.append((it["ruleId"], it["level"], UNSHOWN.sub("?", name), at.get("startLine"), at.get("startColumn"), message))
     return told
 
 
@@ -58,7 +59,7 @@ class Forms:
         for form, reader in ("--json", told_as_json), ("--sarif", told_as_sarif):
             found = reader(runs[form].output)
             self.count.check(found == told, lambda: f"{name} {form}: {found}, and as lines {told}")
-        found, wanted = told_as_junit(runs["--junit"].output), sorted((f"{it[0]} {it[3]}:{it[4]}", it[2]) for it in told)
+        found, wanted = told_as_junit(runs["--junit"].output), sorted((f"{it[0]} {it[3]}:{it[4]}" if it[3] else it[0], it[2]) for it in told)
         self.count.check(found == wanted, lambda: f"{name} --junit: {found}, and as lines {wanted}")
         faults = schema.faults(json.loads(runs["--json"].output), self.schema) + sarif.faults(json.loads(runs["--sarif"].output))
         self.count.check(not faults, lambda: f"{name}: {faults}")

@@ -273,7 +273,8 @@ class Reading:
                 holds = named[0] in (plain[0], 1, self.place.run(words)[0])
             else:
                 holds = named[0] == plain[0] and (named[0] == 1) == (where in ("> /dev/full", ">&-"))
-            is_told = named[0] != 1 or "can't be written" in named[2] or "os error" in named[2]
+            told = [it for found in (named, plain) if found[0] == 1 for it in found[2].splitlines() if "can't be written" in it or "os error" in it]
+            is_told = bool(told) == (1 in (named[0], plain[0])) and all(it.startswith("gammonfig: ") for it in told)
             self.count.check(holds and is_told and "Traceback" not in named[2], lambda: f"{words} {where}: {named}, and without files {plain}")
 
     def broken(self):

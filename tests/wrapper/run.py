@@ -110,7 +110,7 @@ class Tests:
         self.place.write({"settling.gfc": self.program(["certify", "--settling"], LAMP)})
         self.check(["run", "--settling", "app.gf", "settling.gfc", "session.gfs"], 0, TRACE)
         self.check(["session", "--settling", "app.gf", "settling.gfc", "session.gfs"], 0, "2 events, each as expected\n")
-        self.check(["run", "--settling", "app.gf", "app.gfc", "session.gfs"], 2, "refused 77\n", "refused 77: the certificate isn't in its grammar")
+        self.check(["run", "--settling", "app.gf", "app.gfc", "session.gfs"], 2, "refused 77\n", "app.gfc:1:1: error: `certificate` can't stand here", "taken without `--settling`")
         found = self.place.run(["run", "--settling", "--unchecked", "9", "app.gf", "session.gfs"])
         self.count.check(found == (2, "", "gammonfig: `--settling` and `--unchecked` exclude one another: `run` takes one of them\n"), lambda: f"both: {found}")
         self.check(["run", "--steps", "1", "app.gf", "app.gfc", "session.gfs"], 4, TRACE[:8] + "fault 64\n", "session.gfs:2:1: error: fault 64 as event 2 was to be taken\n")
@@ -193,7 +193,8 @@ class Tests:
         self.check(["graph", "app.gf"], 0, self.program(["graph"], LAMP, "qt_tools"))
         words = ["graph", "--json", "--class", "Lamp", "--from", "Lamp.dim"]
         self.check(words + ["app.gf"], 0, self.program(words, LAMP, "qt_tools"))
-        self.check(["graph", "--from", "Lamp.none", "app.gf"], 1, "", "no class or member")
+        self.check(["graph", "--from", "Lamp.none", "app.gf"], 1, "", "gammonfig: the program has no member `Lamp.none`\n")
+        self.check(["graph", "--class", "Lmap", "app.gf"], 1, "", "gammonfig: the program has no class `Lmap`: did you mean `Lamp`?\n")
         self.check(["graph", "loose.gf"], 2, "", "refused with 5")
 
     def session(self):
@@ -207,7 +208,7 @@ class Tests:
         told += "2 events, 1 not as expected\n"
         self.check(["session", "--unchecked", "256", "app.gf", "other.gfs"], 5, told, "otherwise than is expected")
         self.check(["session", "app.gf", "app.gfc", "above.gfs"], 2, "", "above.gfs:1: expects a line of the trace")
-        self.check(["session", "app.gf", "app.gfc", "wrong.gfs"], 2, "", "refused with 16")
+        self.check(["session", "app.gf", "app.gfc", "wrong.gfs"], 2, "", "wrong.gfs:3:1: error: `cal` begins no event\n  | cal a.dim(4)\n", "refused with 16")
         self.check(["session", "app.gf", "session.gfs"], 1, USAGE, "this is no command")
 
     def sessions(self):
@@ -219,7 +220,7 @@ class Tests:
         told += "other.gfs: 2 events, 1 not as expected\n"
         self.check([*before, "session.gfs", "other.gfs"], 5, passed + told, "gammonfig: other.gfs: events went otherwise")
         self.check([*before, "other.gfs", "session.gfs"], 5, told + passed, "gammonfig: other.gfs: events went otherwise")
-        self.check([*before, "wrong.gfs", "session.gfs", "other.gfs"], 2, passed + told, "gammonfig: wrong.gfs: the script isn't run", "gammonfig: other.gfs: events")
+        self.check([*before, "wrong.gfs", "session.gfs", "other.gfs"], 2, passed + told, "wrong.gfs:3:1: error: `cal` begins no event\n  | cal a.dim(4)\n", "gammonfig: wrong.gfs: the script isn't run", "gammonfig: other.gfs: events")
         self.check([*before, "above.gfs", "session.gfs"], 2, passed, "above.gfs:1: expects a line of the trace")
         self.check(["session", "app.gf", "flat.gfc", "session.gfs", "other.gfs"], 3, "", "gammonfig: session.gfs: the script isn't run", "gammonfig: other.gfs: the")
         self.check([*before, "session.gfs", "none.gfs"], 2, "", "none.gfs: this file can't be read")

@@ -23,6 +23,6 @@ pub record IsRefused (limits : Limits) (text : List ℕ) (number : ℕ) : Type 0
 -- why there is no graph: a part that isn't there is asked of a program that loads, and one that loads has too many edges
 abbrev pub Lacks : Limits → List ℕ → GraphFault → Type 0
 Lacks limits text (Refused number) = IsRefused limits text number
-Lacks limits text Unknown = Loads limits text
+Lacks limits text (Unknown sentence) = Loads limits text
 Lacks limits text TooLarge = Loads limits text
 Lacks limits text Memory = ⊤

@@ -9,14 +9,14 @@ use std::alloc::AllocError;
 use thiserror::Error;
 
 /// Why a program has no graph, or not the part that was asked for.
-#[derive(Clone, Copy, Debug, PartialEq, Eq, Error)]
+#[derive(Debug, Drop, Error)]
 pub enum GraphFault {
     /// The text can't be read, or the program doesn't load: the number of the refusal.
     #[error("the program is refused")]
     Refused(u8),
-    /// The part names a class, or a member of a class, that isn't there.
-    #[error("the program has no such class or member")]
-    Unknown,
+    /// The part names a class, or a member of a class, that isn't there, as this sentence says.
+    #[error("{0}")]
+    Unknown(String),
     /// There are more edges than are drawn.
     #[error("the program has more than 262144 edges")]
     TooLarge,
@@ -37,10 +37,10 @@ impl From<AllocError> for GraphFault {
 }
 
 /// Why a part of a graph can't be drawn.
-#[derive(Clone, Copy, Debug, PartialEq, Eq)]
+#[derive(Debug, Drop)]
 pub enum GraphPartFault {
-    /// It names a class, or a member of a class, that isn't there.
-    Unknown,
+    /// It names a class, or a member of a class, that isn't there, as this sentence says.
+    Unknown(String),
     /// There are more edges than are drawn.
     TooLarge,
     /// A growth of memory was refused.

@@ -43,6 +43,18 @@ pub fn member_text(alloc: Global, meta: &Meta, node: Node) -> Result<String, All
     }
 }
 
+/// The name of a node: its class and member, or the deletion of an object of a class.
+pub fn node_text(alloc: Global, meta: &Meta, node: Node) -> Result<String, AllocError> {
+    let member = member_text(alloc, meta, node)?;
+    match (node.member, meta.object(node.class)) {
+        (Member::Destruction, _) | (_, None) => Ok(member),
+        (_, Some(class)) => {
+            let class = class_text(alloc, class)?;
+            format!(in alloc; "{class}.{member}")
+        }
+    }
+}
+
 /// What a node is, in a word.
 pub fn kind_word(meta: &Meta, node: Node) -> &'static str {
     match node.member {

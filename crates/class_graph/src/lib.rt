@@ -64,7 +64,7 @@ pub fn class_graph(
     };
     match drawn {
         Ok(text) => Ok(text),
-        Err(GraphPartFault::Unknown) => Err(GraphFault::Unknown),
+        Err(GraphPartFault::Unknown(sentence)) => Err(GraphFault::Unknown(sentence)),
         Err(GraphPartFault::TooLarge) => Err(GraphFault::TooLarge),
         Err(GraphPartFault::Memory) => Err(GraphFault::Memory),
     }

@@ -2,7 +2,8 @@
 
 use crate::edge::Edges;
 use crate::fault::GraphPartFault;
-use crate::label::member_text;
+use crate::label::node_text;
+use diagnostics::{Printed, did_you_mean};
 use effect_scan::{Member, Node, Scan};
 use meta_model::{DELETE_LATER, Meta, MetaObject, OBJECT_NAME};
 use std::alloc::{AllocError, Global};
@@ -27,7 +28,7 @@ pub fn drawn(
 ) -> Result<Vec<bool>, GraphPartFault> {
     for class in part.classes {
         if !names_one(meta, class) {
-            return Err(GraphPartFault::Unknown);
+            return Err(unknown_class(alloc, meta, class)?);
         }
     }
     let reached = match part.from {
@@ -143,7 +144,7 @@ fn reached(
 ) -> Result<Vec<bool>, GraphPartFault> {
     let first = named(alloc, meta, scan, name)?;
     if first.is_empty() {
-        return Err(GraphPartFault::Unknown);
+        return Err(unknown_member(alloc, meta, scan, name)?);
     }
     Ok(reach(alloc, meta, scan, edges, first)?)
 }
@@ -208,18 +209,8 @@ fn reach(
 
 /// Whether the node has this name, with its types or without them.
 fn is_named(alloc: Global, meta: &Meta, node: Node, name: &str) -> Result<bool, AllocError> {
-    let mut whole = String::new(alloc);
-    if node.member == Member::Destruction {
-        whole.push_str("~")?;
-    }
-    if let Some(class) = meta.object(node.class) {
-        push_name(&mut whole, class.name.bytes())?;
-    }
-    if node.member != Member::Destruction {
-        let member = member_text(alloc, meta, node)?;
-        write!(whole, ".{member}")?;
-    }
-    let text = whole.as_str();
+    let text = node_text(alloc, meta, node)?;
+    let text = text.as_str();
     Ok(
         text == name
             || text
@@ -228,10 +219,49 @@ fn is_named(alloc: Global, meta: &Meta, node: Node, name: &str) -> Result<bool, 
     )
 }
 
-/// Adds a name.
-fn push_name(text: &mut String, name: &[u8]) -> Result<(), AllocError> {
-    for byte in name {
-        text.push(char::from(*byte))?;
+/// That there is no class of this name.
+fn unknown_class(alloc: Global, meta: &Meta, name: &str) -> Result<GraphPartFault, AllocError> {
+    let mut names = Vec::new(alloc);
+    for class in meta.classes() {
+        names.push(class.name.bytes())?;
     }
-    Ok(())
+    unknown(alloc, "class", name, names.as_slice())
+}
+
+/// That there is no node of this name.
+fn unknown_member(
+    alloc: Global,
+    meta: &Meta,
+    scan: &Scan,
+    name: &str,
+) -> Result<GraphPartFault, AllocError> {
+    let mut texts = Vec::new(alloc);
+    for node in scan.nodes() {
+        texts.push(node_text(alloc, meta, *node)?)?;
+    }
+    let mut names = Vec::new(alloc);
+    for text in texts.iter() {
+        let text: &String = text;
+        let named = match text.as_str().split_once('(') {
+            Some((front, _)) if !name.contains('(') => front,
+            _ => text.as_str(),
+        };
+        names.push(named.as_bytes())?;
+    }
+    unknown(alloc, "member", name, names.as_slice())
+}
+
+/// That there is nothing of this sort with this name, and which of these may be meant.
+fn unknown(
+    alloc: Global,
+    sort: &str,
+    name: &str,
+    names: &[&[u8]],
+) -> Result<GraphPartFault, AllocError> {
+    let shown = Printed(name.as_bytes());
+    let mut sentence = format!(in alloc; "the program has no {sort} `{shown}`")?;
+    if let Some(guess) = did_you_mean(alloc, name.as_bytes(), names)? {
+        write!(&mut sentence, ": {guess}")?;
+    }
+    Ok(GraphPartFault::Unknown(sentence))
 }

@@ -1,17 +1,21 @@
 //! What a command writes on standard output, what is reported of its end on standard error, and its exit status.
 
-ghost use Rattle.std.specs.Prelude.{◌≡◌, ◌↔◌, ◌∷◌, [], codes, map, IsTrue};
+ghost use Rattle.std.specs.Prelude.{◌≡◌, ◌↔◌, ◌∷◌, [], codes, map, None, false, IsTrue, OnOk, OnErr};
 ghost use Rattle.explained_commands.specs.Judged.{IsUnjudged};
+ghost use Rattle.explained_commands.specs.Refused.{HasRefused};
 ghost use Rattle.trace_tool.specs.Commands.{WritesCommand};
 
 use crate::explain::explanation;
 use crate::remarks::{is_judged, may_run, remarks_on};
-use crate::reports::{fault_report, has_unexpected, refusal_report};
+use crate::reports::{fault_report, has_refused, has_unexpected, refusal_report};
 use std::alloc::{AllocError, Global};
 use std::io::{Read, Write};
 use trace_tool::{
     Answered, Entry, FittingNatives, InputFault, ObjectMachine, Outcome, Ran, WriteFault, answer,
 };
+
+/// What stands in front of what is said of no text.
+const NAME: &str = "gammonfig";
 
 /// The exit status of a command that did what it was asked.
 const SUCCESS: u8 = 0;
@@ -58,16 +62,15 @@ pub fn explained_command<
         IsUnjudged said → result.status ≡ Ok 0 → most_refusals ≡ 0 → errors.new ≡ errors.old }
     ensures meta { let said = map (λ word. word.now) words.now in
         said ≡ codes "meta" ∷ [] → result.status ≡ Ok 0 → errors.new ≡ errors.old }
+    ensures unexpected { IsTrue result.is_unexpected → HasRefused result.answered.carried.refused }
+    ensures unread { OnOk result.status (result.answered.input ≡ None → HasRefused result.answered.carried.refused → IsTrue result.is_unexpected) }
+    ensures unwritten { OnErr result.status (result.is_unexpected ≡ false) }
 {
     let answered = answer::<N, M, R, W>(alloc, words, reader, natives, writer);
     match answered.carried.written {
         Ok(status) => {
             tell_end(alloc, words, &answered, status, most_refusals, errors);
-            let is_unexpected = has_unexpected(
-                alloc,
-                explained_input(&answered),
-                answered.carried.refused.as_slice(),
-            );
+            let is_unexpected = is_unexpected(alloc, &answered);
             Explained {
                 status: Ok(status),
                 is_unexpected,
@@ -115,14 +118,29 @@ fn tell_end<M: ObjectMachine, E: Write>(
 /// Writes why the output can't be written.
 pub fn tell_fault<E: Write>(errors: &mut E, fault: WriteFault) {
     let WriteFault::Failed(reason) = fault;
-    writeln!(errors, "{fault}: {reason}").ok();
+    writeln!(errors, "{NAME}: {fault}: {reason}").ok();
 }
 
 /// The input, as far as places are looked for in it; `None` where it is too large, or there is none.
-fn explained_input<M: Drop>(answered: &Answered<M>) -> Option<&[u8]> {
+fn explained_input<M: Drop>(answered: &Answered<M>) -> Option<&[u8]>
+    ensures { answered.now.input ≡ None → result ≡ None }
+{
     match &answered.input {
         Some(input) if input.len() <= MOST_EXPLAINED => Some(input.as_slice()),
         _ => None,
+    }
+}
+
+/// Whether an event was refused and no comment in its line expects that: where the input isn't known, none does.
+fn is_unexpected<M: Drop>(alloc: Global, answered: &Answered<M>) -> bool
+    ensures refused { IsTrue result → HasRefused answered.now.carried.refused }
+    ensures unread { answered.now.input ≡ None → HasRefused answered.now.carried.refused
+        → IsTrue result }
+{
+    let refused = answered.carried.refused.as_slice();
+    match explained_input(answered) {
+        Some(input) => has_unexpected(alloc, input, refused),
+        None => has_refused(refused),
     }
 }
 
@@ -154,7 +172,7 @@ fn explain<M: ObjectMachine, E: Write>(
     );
     match &answered.carried.outcome {
         Outcome::NoInput(InputFault::Unread(reason)) => {
-            writeln!(errors, "the input can't be read: {reason}").ok();
+            writeln!(errors, "{NAME}: the input can't be read: {reason}").ok();
         }
         Outcome::Ran(ran) => {
             let last = answered.carried.last.as_slice();

@@ -1,8 +1,9 @@
 //! Texts between quotes that seem to have escapes, which this language doesn't have.
 
-use diagnostics::{Flaw, Severity, Span, TextKind, push_flaw, text_spans};
+use crate::placed::{PlacedText, tokens_of};
+use diagnostics::{Flaw, Severity, TextKind, text_spans};
 use std::alloc::{AllocError, Global};
-use texts::{PlaceFault, Token, placed_tokens};
+use texts::Token;
 
 /// How many texts the input of a checked run has, of which the last one is a script.
 const TEXTS_OF_RUN: usize = 3;
@@ -12,45 +13,34 @@ pub fn push_escapes(text: &mut String, alloc: Global, input: &[u8]) -> Result<()
     if !input.contains(&b'\\') {
         return Ok(());
     }
-    let spans = text_spans(alloc, input)?;
-    if let Some(span) = TextKind::Program.span(spans.as_slice()) {
-        push_escape(text, alloc, input, span, TextKind::Program)?;
-    }
-    if spans.len() == TEXTS_OF_RUN
-        && let Some(span) = TextKind::Script.span(spans.as_slice())
-    {
-        push_escape(text, alloc, input, span, TextKind::Script)?;
+    push_escape(
+        text,
+        alloc,
+        PlacedText::of(alloc, input, TextKind::Program)?,
+    )?;
+    if text_spans(alloc, input)?.len() == TEXTS_OF_RUN {
+        push_escape(text, alloc, PlacedText::of(alloc, input, TextKind::Script)?)?;
     }
     Ok(())
 }
 
 /// Adds a warning on the first one in this text of the input.
-fn push_escape(
-    text: &mut String,
-    alloc: Global,
-    input: &[u8],
-    span: Span,
-    kind: TextKind,
-) -> Result<(), AllocError> {
-    let source = input.get(span.begin..span.end).unwrap_or(&[]);
-    let tokens = match placed_tokens(alloc, source) {
-        Ok(tokens) => tokens,
-        Err(PlaceFault::BadByte(_)) => return Ok(()),
-        Err(PlaceFault::Memory) => return Err(AllocError),
-    };
-    for placed in tokens.as_slice() {
-        if let Token::Text(_) = &placed.token
-            && let Some(inner) = escape_in(source.get(placed.at..placed.end).unwrap_or(&[]))
+fn push_escape(text: &mut String, alloc: Global, placed: PlacedText<'_>) -> Result<(), AllocError> {
+    let source = placed.source();
+    let tokens = tokens_of(alloc, source)?;
+    for token in tokens.as_slice() {
+        if let Token::Text(_) = &token.token
+            && let Some(inner) = escape_in(source.get(token.at..token.end).unwrap_or(&[]))
         {
             let flaw = Flaw {
-                at: placed.at.saturating_add(inner),
+                at: token.at.saturating_add(inner),
                 sentence: String::from_str(
                     alloc,
                     "a text has no escapes: this `\\` stands for itself",
                 )?,
                 advice: None,
             };
-            return push_flaw(text, Severity::Warning, input, span, kind, &flaw);
+            return placed.push(text, Severity::Warning, &flaw);
         }
     }
     Ok(())

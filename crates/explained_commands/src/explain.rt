@@ -1,10 +1,11 @@
 //! What is said to a person of what a command line comes to.
 
-use crate::explanations::{push_fault, push_outcome, push_usage};
+use crate::explanations::{Asked, push_fault, push_outcome, push_usage};
+use crate::placed::some_text;
 use class_lang::Limits;
 use command_lines::CommandLine;
 use std::alloc::{AllocError, Global};
-use trace_tool::{Outcome, ProgramOutcome, Refusal, limits_of};
+use trace_tool::{Outcome, limits_of};
 
 /// Explains what the words come to on this input, or where it isn't known, without a place. `None` where there is nothing to
 /// explain: a command did what it was asked, memory was wanting, or there is no input.
@@ -18,8 +19,13 @@ pub fn explanation<M: Drop>(
     match outcome {
         Outcome::Usage(fault) => push_usage(&mut text, alloc, words, input, *fault)?,
         Outcome::Program(outcome) => {
-            let input = placed_input(words, input, outcome);
-            push_outcome(&mut text, alloc, limits_for(words), input, outcome)?;
+            let asked = Asked {
+                alloc,
+                limits: limits_for(words),
+                is_settling: words.contains(&"--settling"),
+                input,
+            };
+            push_outcome(&mut text, asked, outcome)?;
         }
         Outcome::Ran(ran) => {
             if let Err(fault) = ran.ended {
@@ -28,24 +34,7 @@ pub fn explanation<M: Drop>(
         }
         Outcome::NoInput(_) | Outcome::Memory => {}
     }
-    if text.is_empty() {
-        Ok(None)
-    } else {
-        Ok(Some(text))
-    }
-}
-
-/// The input, where its places are told: what is no settling certificate has none.
-fn placed_input<'i>(
-    words: &[&str],
-    input: Option<&'i [u8]>,
-    outcome: &ProgramOutcome,
-) -> Option<&'i [u8]> {
-    let is_settling = words.contains(&"--settling");
-    match outcome {
-        ProgramOutcome::Refused(Refusal::Certificate(_)) if is_settling => None,
-        _ => input,
-    }
+    Ok(some_text(text))
 }
 
 /// How large a program may be where these are the words.

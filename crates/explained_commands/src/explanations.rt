@@ -3,5 +3,5 @@
 mod explain;
 mod usage;
 
-pub use explain::{push_fault, push_outcome};
+pub use explain::{Asked, push_fault, push_outcome};
 pub use usage::push_usage;

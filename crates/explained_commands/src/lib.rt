@@ -5,6 +5,7 @@ mod ends;
 mod escapes;
 mod explain;
 mod explanations;
+mod placed;
 mod remarks;
 mod reports;
 

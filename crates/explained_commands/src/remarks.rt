@@ -4,6 +4,7 @@ ghost use Rattle.std.specs.Prelude.{◌↔◌, ◌≡◌, ◌∷◌, [], codes, 
 ghost use Rattle.explained_commands.specs.Judged.{IsUnjudged};
 
 use crate::escapes::push_escapes;
+use crate::placed::some_text;
 use diagnostics::PARTING;
 use program_commands::SettlingOutcome;
 use program_flaws::{Ranked, Yes, told_beside};
@@ -59,11 +60,7 @@ pub fn remarks_on<M: ObjectMachine>(
         let (bound, step) = (checked.bound(), checked.step());
         writeln!(text, "bound {bound}, step {step}")?;
     }
-    if text.is_empty() {
-        Ok(None)
-    } else {
-        Ok(Some(text))
-    }
+    Ok(some_text(text))
 }
 
 /// The yes that this is, if it is one.

@@ -8,9 +8,7 @@ mod events;
 mod faults;
 mod known;
 mod refusals;
-mod script;
 
 pub use asked::{EXPLAIN, is_asked};
-pub use events::{EventLine, event_line};
 pub use faults::fault_report;
-pub use refusals::{FIRST_REFUSALS, has_unexpected, refusal_report};
+pub use refusals::{FIRST_REFUSALS, has_refused, has_unexpected, refusal_report};

@@ -66,7 +66,7 @@ pub record IsIdle (p : Loaded) (place other : ℕ) : Type 0 where
 -- what a warning says of wires is so
 abbrev pub IsSo : Loaded → Warning → Type 0
 IsSo p (IdleWire wire other) = IsIdle p wire other
-IsSo p (Unwired connect wanted) = IsLacking p wanted
+IsSo p (Unwired class method statement wanted) = IsLacking p wanted
 IsSo p Empty = Unit {0}
 IsSo p (NotifiedTwice class method property emit) = Unit {0}
 IsSo p (LostSender class signal) = Unit {0}

@@ -7,13 +7,10 @@ mod further;
 mod likely;
 mod natives;
 mod sentence;
-mod source;
 mod types;
 mod undeclared;
-mod walk;
 mod words;
 
 pub use flaws::declaration_flaw;
 pub use further::{FurtherFlaw, further_declaration_flaws};
 pub use natives::native_flaw;
-pub use walk::{first_token, nth_word};

@@ -3,7 +3,7 @@
 use crate::names::{node_text, text_of};
 use crate::other_value::{OtherSearch, OtherValue};
 use crate::source::ProgramSource;
-use crate::statement::BodyContext;
+use crate::statement::{BodyContext, body_of};
 use edge_reasons::{Reason, reason_for};
 use effect_scan::{Member, Node};
 use meta_model::{Meta, Statement, Work};
@@ -142,28 +142,16 @@ fn statement_obstacle(
 ) -> Result<String, AllocError> {
     let alloc = source.alloc;
     let name = node_text(alloc, source.meta, from)?;
-    let Member::Method(method) = from.member else {
+    let Some((body, statements)) = body_of(source, from) else {
         return Ok(name);
-    };
-    let Some(found) = source.meta.method_at(from.class, method) else {
-        return Ok(name);
-    };
-    let Work::Slot(statements) = &found.work else {
-        return Ok(name);
-    };
-    let body = BodyContext {
-        source,
-        class: source.declaring(from.class, method),
-        types: found.types.as_slice(),
-        slot: source.slot(from.class, method),
     };
     let search = OtherSearch {
         meta: source.meta,
         class: from.class,
-        types: found.types.as_slice(),
+        types: body.types,
         to,
     };
-    match search.first_among(statements.as_slice(), false) {
+    match search.first_among(statements, false) {
         Some(other) => told_statement(body, name.as_str(), other),
         None => Ok(name),
     }

@@ -22,12 +22,11 @@ pub struct BodyContext<'s> {
     pub slot: Option<&'s Slot>,
 }
 
-/// The statement of this number in the body of the slot that the node is, and where it stands.
-pub fn statement_of<'s>(
+/// The body of the slot that the node is, with what stands around it.
+pub fn body_of<'s>(
     source: ProgramSource<'s>,
     node: Node,
-    number: usize,
-) -> Option<(BodyContext<'s>, Numbered<'s>)> {
+) -> Option<(BodyContext<'s>, &'s [Statement])> {
     let Member::Method(method) = node.member else {
         return None;
     };
@@ -35,14 +34,23 @@ pub fn statement_of<'s>(
     let Work::Slot(statements) = &found.work else {
         return None;
     };
-    let numbered = statement_at(statements.as_slice(), number)?;
     let body = BodyContext {
         source,
-        class: source.declaring(node.class, method),
+        class: source.declared(node).class,
         types: found.types.as_slice(),
-        slot: source.slot(node.class, method),
+        slot: source.slot(node),
     };
-    Some((body, numbered))
+    Some((body, statements.as_slice()))
+}
+
+/// The statement of this number in the body of the slot that the node is, and where it stands.
+pub fn statement_of<'s>(
+    source: ProgramSource<'s>,
+    node: Node,
+    number: usize,
+) -> Option<(BodyContext<'s>, Numbered<'s>)> {
+    let (body, statements) = body_of(source, node)?;
+    Some((body, statement_at(statements, number)?))
 }
 
 /// A path as it is written, and the class that it is declared to lead to.
@@ -187,7 +195,7 @@ impl<'s> BodyContext<'s> {
 }
 
 /// The class that a value of this type refers to.
-fn class_of(kind: ValueType) -> Option<usize> {
+pub fn class_of(kind: ValueType) -> Option<usize> {
     match kind {
         ValueType::Reference(class, _) => Some(class),
         _ => None,

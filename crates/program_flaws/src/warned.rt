@@ -10,7 +10,6 @@ mod notified_twice;
 mod ranked;
 mod remarks;
 mod senders;
-mod spot;
 mod telling;
 mod warning;
 

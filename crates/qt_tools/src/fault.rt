@@ -12,7 +12,7 @@ use thiserror::Error;
 
 /// Why a word doesn't do what it is asked. Nothing is written on standard output then, but where a write failed or members
 /// were left out.
-#[derive(Clone, Copy, Debug, Error)]
+#[derive(Debug, Drop, Error)]
 pub enum ToolFault {
     /// The words are none that there are.
     #[error("usage: qt_tools [--wide] graph [--json] [--places] [--class CLASS,..] [--from MEMBER] < PROGRAM, import [--only CLASS,..] [--lean] [--strict] [--effects] < TEXTS, [--wide] session [--tap|--record] [--settling|--unchecked N] [--steps M] < TEXTS, [--wide] verdict [--json|--sarif|--junit|--accept-all|--rules] [--error RULE,..] [--warning RULE,..] [--off RULE,..] [--places] [--accept|--baseline] [--program NAME] [--certificate NAME] < TEXTS, view --plain|--color|--mermaid|--html < TRACE, or [--wide] witness < PROGRAM")]
@@ -20,9 +20,9 @@ pub enum ToolFault {
     /// The program is refused, with the number that `gammonfig` gives.
     #[error("the program is refused with {0}: `gammonfig meta` says where")]
     Refused(u8),
-    /// The words name a class or a member that the program doesn't have.
-    #[error("the program has no class or member of this name")]
-    Unknown,
+    /// The words name a class or a member that the program doesn't have, as this sentence says.
+    #[error("{0}")]
+    Unknown(String),
     /// The program has more edges than are drawn.
     #[error("the program has more than 262144 edges, which are too many for a picture")]
     TooManyEdges,
@@ -33,10 +33,10 @@ pub enum ToolFault {
     #[error("nothing is imported, since the effects have mistakes")]
     Mistaken,
     /// The script isn't run, since a text is refused with this number.
-    #[error("the script isn't run: a text is refused with {0}, and `gammonfig run` says where")]
+    #[error("the script isn't run: a text is refused with {0}")]
     TextRefused(u64),
     /// The script isn't run, since the certificate isn't valid, for this reason.
-    #[error("the script isn't run: the certificate isn't valid for the reason {0}, and `gammonfig run` says where")]
+    #[error("the script isn't run: the certificate isn't valid for the reason {0}")]
     Invalid(u64),
     /// No script was found whose run ends so.
     #[error("no script was found whose run ends so, which proves nothing")]
@@ -94,7 +94,7 @@ pub enum ToolFault {
 impl ToolFault {
     /// The process's exit status: 2 for an input that is refused, 3 for one of which a part is left out, for a certificate
     /// that isn't valid, where something is found and where no witness was, 5 for a script whose events went otherwise than it expects, else 1.
-    pub fn status(self) -> u8 {
+    pub fn status(&self) -> u8 {
         match self {
             ToolFault::Refused(_)
             | ToolFault::TextRefused(_)
@@ -140,7 +140,7 @@ impl From<GraphFault> for ToolFault {
     fn from(fault: GraphFault) -> ToolFault {
         match fault {
             GraphFault::Refused(number) => ToolFault::Refused(number),
-            GraphFault::Unknown => ToolFault::Unknown,
+            GraphFault::Unknown(sentence) => ToolFault::Unknown(sentence),
             GraphFault::TooLarge => ToolFault::TooManyEdges,
             GraphFault::Memory => ToolFault::Memory,
         }

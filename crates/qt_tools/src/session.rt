@@ -4,11 +4,13 @@ use crate::fault::ToolFault;
 use crate::parted::split_text;
 use crate::streams::{MOST_READ, input, write, write_bytes};
 use crate::words::WIDE;
+use explained_commands::explained_command;
 use native_slots::Natives;
 use script_tests::{TestFormat, judge, record, report};
 use std::alloc::{AllocError, Global};
+use std::io::Write;
 use texts::{MOST_BYTES, number};
-use trace_tool::command;
+use trace_tool::Machine;
 
 /// The option that needs no certificate.
 const UNCHECKED: &str = "--unchecked";
@@ -26,7 +28,6 @@ enum SessionTask {
 /// writes which events went otherwise than its comments expect, or the script with comments that they meet. With `--wide` the
 /// run has it too.
 pub fn session(rt: &HostRuntime, is_wide: bool, words: &[&str]) -> Result<(), ToolFault> {
-    let alloc = rt.alloc();
     let (task, options) = match words {
         [word, options @ ..] if *word == "--tap" => (SessionTask::Tell(TestFormat::Tap), options),
         [word, options @ ..] if *word == "--record" => (SessionTask::Record, options),
@@ -34,7 +35,7 @@ pub fn session(rt: &HostRuntime, is_wide: bool, words: &[&str]) -> Result<(), To
     };
     // The command takes none of an input that is longer than it may be.
     let input = input(rt, MOST_READ)?;
-    let trace = trace_of(alloc, is_wide, options, input.as_slice())?;
+    let trace = trace_of(rt, is_wide, options, input.as_slice())?;
     let script = script_of(options, input.as_slice()).unwrap_or(&[]);
     match task {
         SessionTask::Tell(form) => tell(rt, script, trace.as_slice(), form),
@@ -76,24 +77,38 @@ fn as_expected(failed: usize) -> Result<(), ToolFault> {
     }
 }
 
-/// The trace of a run of this input with these options, and with `--wide` or without it.
+/// The trace of a run of this input with these options, and with `--wide` or without it. Where it isn't run, what `run` says of
+/// that is said on standard error.
 fn trace_of(
-    alloc: Global,
+    rt: &HostRuntime,
     is_wide: bool,
     options: &[&str],
     input: &[u8],
 ) -> Result<Vec<u8>, ToolFault> {
+    let alloc = rt.alloc();
     let words = run_words(alloc, is_wide, options)?;
     let mut reader = input;
     let mut output = Vec::new(alloc);
-    let natives = Natives::of(Vec::new(alloc));
-    match command(alloc, words.as_slice(), &mut reader, natives, &mut output).status {
-        Ok(0 | 4) => Ok(output),
-        Ok(2) => Err(ToolFault::TextRefused(number_in(b"refused ", output.as_slice()))),
-        Ok(3) => Err(ToolFault::Invalid(number_in(b"no ", output.as_slice()))),
-        Ok(_) if output.as_slice() == b"usage\n".as_slice() => Err(ToolFault::Usage),
-        Ok(_) | Err(_) => Err(ToolFault::Memory),
-    }
+    let mut said = Vec::new(alloc);
+    let status = explained_command::<Natives, Machine<Natives>, _, _, _>(
+        alloc,
+        words.as_slice(),
+        &mut reader,
+        Natives::of(Vec::new(alloc)),
+        &mut output,
+        &mut said,
+        0,
+    )
+    .status;
+    let fault = match status {
+        Ok(0 | 4) => return Ok(output),
+        Ok(2) => ToolFault::TextRefused(number_in(b"refused ", output.as_slice())),
+        Ok(3) => ToolFault::Invalid(number_in(b"no ", output.as_slice())),
+        Ok(_) if output.as_slice() == b"usage\n".as_slice() => return Err(ToolFault::Usage),
+        Ok(_) | Err(_) => return Err(ToolFault::Memory),
+    };
+    rt.stderr().write_all(said.as_slice()).ok();
+    Err(fault)
 }
 
 /// The words of `run` with these options, and with `--wide` or without it.

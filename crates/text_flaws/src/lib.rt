@@ -2,6 +2,7 @@
 #![tactic(auto)]
 
 mod bytes;
+mod certificates;
 mod further;
 mod limits;
 mod lines;
@@ -9,7 +10,8 @@ mod parts;
 mod program;
 mod unexpected;
 
+pub use certificates::{certificate_flaw, settling_flaw};
 pub use further::further_program_flaws;
 pub use limits::script_size_flaw;
-pub use lines::{certificate_flaw, script_flaw};
+pub use lines::script_flaw;
 pub use program::program_flaw;

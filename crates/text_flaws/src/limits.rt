@@ -274,10 +274,8 @@ fn plain_reference(alloc: Global, source: TokenizedText, at: usize) -> Result<Fl
 
 /// Whether the token is the `&` of a reference without `const`.
 fn is_plain_reference(source: TokenizedText, at: usize) -> bool {
-    let is_const = match source.token(at.saturating_sub(2)) {
-        Some(Token::Word(Word::Const)) => at >= 2,
-        _ => false,
-    };
+    let before = source.token(at.saturating_sub(2));
+    let is_const = at >= 2 && matches!(before, Some(Token::Word(Word::Const)));
     source.is(at, Symbol::Ampersand) && source.is_name(at.saturating_sub(1)) && !is_const
 }
 
@@ -303,19 +301,19 @@ fn begins_arguments(source: TokenizedText, at: usize) -> bool {
     if is_of_binding(source, at) {
         return false;
     }
-    let is_emitted = match source.token(at.saturating_sub(2)) {
-        Some(Token::Word(Word::Emit)) | Some(Token::Symbol(Symbol::Dot)) => true,
-        _ => false,
-    };
+    let is_emitted = matches!(
+        source.token(at.saturating_sub(2)),
+        Some(Token::Word(Word::Emit) | Token::Symbol(Symbol::Dot))
+    );
     !source.is_name(at.saturating_sub(1)) || is_emitted
 }
 
 /// Whether `(` begins the formal sources of a binding, behind its name and the property.
 fn is_of_binding(source: TokenizedText, at: usize) -> bool {
-    match source.token(at.saturating_sub(5)) {
-        Some(Token::Word(Word::Binding)) => true,
-        _ => false,
-    }
+    matches!(
+        source.token(at.saturating_sub(5)),
+        Some(Token::Word(Word::Binding))
+    )
 }
 
 /// A list that begins with this `(`, and has more than eight parts.

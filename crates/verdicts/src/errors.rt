@@ -1,9 +1,10 @@
 //! The errors that a verdict has of a program which a command has loaded.
 
 use crate::certificate::gather_cause;
-use crate::program::{ReadText, program_errors};
+use crate::program::{Located, program_errors};
 use findings::{Levels, Verdict};
 use meta_model::Meta;
+use program_flaws::ReadProgram;
 use rank_check::Denied;
 use std::alloc::{AllocError, Global};
 
@@ -30,10 +31,10 @@ fn errors_by(
     levels: Levels<'_>,
 ) -> Result<Verdict, AllocError> {
     let mut found = Verdict::new(alloc, FOUND);
-    let Some(read) = ReadText::of(alloc, text)? else {
+    let Some(read) = ReadProgram::of(alloc, text)? else {
         return Ok(found);
     };
-    let located = read.located(alloc, meta, levels);
+    let located = Located::of(alloc, &read, meta, levels);
     program_errors(located, &mut found)?;
     if let Some((certificate, denied)) = denied {
         let said = denied.certificate();

@@ -9,11 +9,9 @@ ghost use Rattle.verdicts.specs.Statuses.{HasStatus, IsRefusedAs};
 
 use crate::certificate::gather_certificate;
 use crate::judged::judged_finding;
-use crate::program::{
-    Located, ProgramPlaces, ReadText, gather_program, program_remarks, settled_remarks,
-};
+use crate::program::{Located, gather_program, program_remarks, settled_remarks};
 use crate::refusal::{add_further, refusal_finding};
-use class_lang::{Limits, read_within};
+use class_lang::Limits;
 use effect_scan::Scan;
 use findings::{Edge, Finding, FindingSeverity, LevelChange, Levels, PlacedEdge, Rule, Verdict};
 use meta_model::Meta;
@@ -21,9 +19,8 @@ use program_commands::{
     Outcome, Refusal, SettlingOutcome, Why, certify_outcome, certify_settling_outcome,
     check_outcome,
 };
-use program_flaws::ProgramSource;
+use program_flaws::ReadProgram;
 use std::alloc::{AllocError, Global};
-use syntax_trees::Program;
 
 /// The exit status where no error is found.
 const CLEAN: u8 = 0;
@@ -157,10 +154,10 @@ fn settling_remarks(
     certificate: &[u8],
     levels: Levels<'_>,
 ) -> Result<Vec<Finding>, AllocError> {
-    let Some(read) = ReadText::of(alloc, text)? else {
+    let Some(read) = ReadProgram::of(alloc, text)? else {
         return Ok(Vec::new(alloc));
     };
-    let located = read.located(alloc, meta, levels);
+    let located = Located::of(alloc, &read, meta, levels);
     settled_remarks(located, certificate)
 }
 
@@ -172,10 +169,10 @@ fn remarks_by(
     scan: &Scan,
     levels: Levels<'_>,
 ) -> Result<Vec<Finding>, AllocError> {
-    let Some(read) = ReadText::of(alloc, text)? else {
+    let Some(read) = ReadProgram::of(alloc, text)? else {
         return Ok(Vec::new(alloc));
     };
-    let located = read.located(alloc, meta, levels);
+    let located = Located::of(alloc, &read, meta, levels);
     program_remarks(located, scan)
 }
 
@@ -366,7 +363,7 @@ fn gather(
     listed: AcceptedEdges<'_>,
     found: &mut Verdict,
 ) -> Result<(), AllocError> {
-    let (program, meta) = match load(alloc, limits, texts.program) {
+    let (read, meta) = match load(alloc, limits, texts.program) {
         Ok(loaded) => loaded,
         Err(refusal) => {
             let finding = refusal_finding(alloc, limits, texts.program, &refusal)?;
@@ -374,16 +371,7 @@ fn gather(
             return add_further(alloc, texts.program, &refusal, found);
         }
     };
-    let places = ProgramPlaces::of(alloc, texts.program)?;
-    let located = Located {
-        source: ProgramSource {
-            alloc,
-            program: &program,
-            meta: &meta,
-        },
-        places: &places,
-        levels,
-    };
+    let located = Located::of(alloc, &read, &meta, levels);
     let remarks = gather_program(located, listed.edges, found)?;
     add_remarks(levels, listed, remarks, found)?;
     if let Some(certificate) = texts.certificate {
@@ -393,9 +381,9 @@ fn gather(
     Ok(())
 }
 
-/// The declarations of the text, and the same with their names resolved.
-fn load(alloc: Global, limits: Limits, text: &[u8]) -> Result<(Program, Meta), Refusal> {
-    let program = read_within(alloc, limits, text)?;
-    let meta = meta_objects::load(alloc, &program)?;
-    Ok((program, meta))
+/// What is read of the text, and the same with its names resolved.
+fn load(alloc: Global, limits: Limits, text: &[u8]) -> Result<(ReadProgram, Meta), Refusal> {
+    let read = ReadProgram::within(alloc, limits, text)?;
+    let meta = meta_objects::load(alloc, &read.program)?;
+    Ok((read, meta))
 }

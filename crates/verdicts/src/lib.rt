@@ -10,4 +10,5 @@ mod refusal;
 
 pub use errors::found_errors;
 pub use judging::{AcceptedEdges, Texts, verdict};
-pub use program::{Located, ProgramPlaces};
+pub use program::Located;
+pub use program_flaws::ProgramPlaces;

@@ -5,7 +5,7 @@ mod chains;
 mod cycles;
 mod deletions;
 mod dropped;
-mod places;
+mod located;
 mod posts;
 mod program;
 mod remarks;
@@ -16,7 +16,7 @@ mod turns;
 mod typing_flaws;
 mod walks;
 
-pub use places::{DeclaredMember, Located, ProgramPlaces, ReadText};
+pub use located::Located;
 pub use program::{gather_program, program_errors, program_remarks, settled_remarks};
 pub use sentences::MessageWithHelp;
 pub use walks::{

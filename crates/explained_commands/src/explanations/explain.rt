@@ -1,7 +1,8 @@
 //! Explanations: what an answer of the program means, and where in the input its reason lies.
 
+use crate::placed::PlacedText;
 use class_lang::Limits;
-use diagnostics::{Flaw, Severity, Span, TextKind, meaning, push_flaw, text_spans};
+use diagnostics::{Flaw, Severity, TextKind, meaning};
 use effect_scan::{Member, Node};
 use findings::{FileNames, FindingSeverity, push_finding};
 use meta_model::Meta;
@@ -15,6 +16,7 @@ use script_lang::ScriptFault;
 use std::alloc::{AllocError, Global};
 use text_flaws::{
     certificate_flaw, further_program_flaws, program_flaw, script_flaw, script_size_flaw,
+    settling_flaw,
 };
 use trace_entries::Fault;
 use verdicts::found_errors;
@@ -25,27 +27,35 @@ const INPUT: &[u8] = b"<stdin>";
 /// So many errors are told.
 const MOST_TOLD: usize = 20;
 
-/// Adds what a command that runs nothing, and reads a program by these limits, comes to on this input, or why a program doesn't
-/// run, for a person: what it means, in one sentence; and where the input is at fault, what is wrong there, its line and column in the input and in its text,
-/// that line with a caret below the place, and what to write instead, where that is known. Where the input isn't known no
-/// place is reported. Nothing is added where the command did what it was asked, or memory was wanting.
+/// What was asked for, of which the end is explained.
+#[derive(Clone, Copy)]
+pub struct Asked<'i> {
+    pub alloc: Global,
+    /// How large a program may be.
+    pub limits: Limits,
+    /// Whether a certificate was to be a settling one.
+    pub is_settling: bool,
+    /// The input; where it isn't known no place is reported.
+    pub input: Option<&'i [u8]>,
+}
+
+/// Adds what a command that runs nothing comes to, or why a program doesn't run, for a person: what it means, in one sentence; and
+/// where the input is at fault, what is wrong there, its line and column in the input and in its text, that line with a caret
+/// below the place, and what to write instead, where that is known. Nothing is added where the command did what it was asked, or
+/// memory was wanting.
 pub fn push_outcome(
     text: &mut String,
-    alloc: Global,
-    limits: Limits,
-    input: Option<&[u8]>,
+    asked: Asked<'_>,
     outcome: &Outcome,
 ) -> Result<(), AllocError> {
     match outcome {
-        Outcome::Refused(refusal) => push_refusal(text, alloc, limits, input, refusal),
-        Outcome::Uncertified(meta, why) => {
-            push_missing(text, alloc, input, meta, meaning_of_reason(why))
-        }
+        Outcome::Refused(refusal) => push_refusal(text, asked, refusal),
+        Outcome::Uncertified(meta, why) => push_missing(text, asked, meta, meaning_of_reason(why)),
         Outcome::Settling(SettlingOutcome::Uncertified(meta, Why::Cycle(nodes))) => {
-            push_unsettled(text, alloc, input, meta, nodes.as_slice())
+            push_unsettled(text, asked, meta, nodes.as_slice())
         }
         Outcome::Settling(SettlingOutcome::Uncertified(meta, why)) => {
-            push_missing(text, alloc, input, meta, meaning_of_unsettled(why))
+            push_missing(text, asked, meta, meaning_of_unsettled(why))
         }
         _ => Ok(()),
     }
@@ -79,13 +89,7 @@ fn push_invalid(text: &mut String, no: &No) -> Result<(), AllocError> {
 }
 
 /// Adds where the input is at fault, and what the refusal means.
-fn push_refusal(
-    text: &mut String,
-    alloc: Global,
-    limits: Limits,
-    input: Option<&[u8]>,
-    refusal: &Refusal,
-) -> Result<(), AllocError> {
+fn push_refusal(text: &mut String, asked: Asked<'_>, refusal: &Refusal) -> Result<(), AllocError> {
     let Some(number) = refusal.number() else {
         return Ok(());
     };
@@ -94,13 +98,13 @@ fn push_refusal(
     }
     let about = meaning(number).unwrap_or("");
     if let Refusal::Check(denied) = refusal {
-        if let Some(input) = input {
-            push_errors(text, alloc, input, denied.meta(), Some(denied))?;
+        if let Some(input) = asked.input {
+            push_errors(text, asked.alloc, input, denied.meta(), Some(denied))?;
         }
         return writeln!(text, "no {number}: {about}");
     }
-    if let Some(input) = input {
-        push_place_of(text, alloc, limits, input, refusal)?;
+    if let Some(input) = asked.input {
+        push_place_of(text, asked, input, refusal)?;
     }
     writeln!(text, "refused {number}: {about}")
 }
@@ -108,23 +112,18 @@ fn push_refusal(
 /// Adds where the input is at fault that is refused, if that is at one place.
 fn push_place_of(
     text: &mut String,
-    alloc: Global,
-    limits: Limits,
+    asked: Asked<'_>,
     input: &[u8],
     refusal: &Refusal,
 ) -> Result<(), AllocError> {
-    let kind = text_at_fault(refusal);
-    let spans = text_spans(alloc, input)?;
-    let Some(span) = kind.span(spans.as_slice()) else {
+    let placed = PlacedText::of(asked.alloc, input, text_at_fault(refusal))?;
+    let source = placed.source();
+    let Some(flaw) = flaw_of(asked, source, refusal)? else {
         return Ok(());
     };
-    let source = source_of(input, span);
-    let Some(flaw) = flaw_of(alloc, limits, source, refusal)? else {
-        return Ok(());
-    };
-    push_flaw(text, Severity::Error, input, span, kind, &flaw)?;
-    for flaw in further_flaws(alloc, source, refusal)? {
-        push_flaw(text, Severity::Error, input, span, kind, &flaw)?;
+    placed.push(text, Severity::Error, &flaw)?;
+    for flaw in further_flaws(asked.alloc, source, refusal)? {
+        placed.push(text, Severity::Error, &flaw)?;
     }
     Ok(())
 }
@@ -159,22 +158,19 @@ fn text_at_fault(refusal: &Refusal) -> TextKind {
 }
 
 /// What is wrong with that text.
-fn flaw_of(
-    alloc: Global,
-    limits: Limits,
-    source: &[u8],
-    refusal: &Refusal,
-) -> Result<Option<Flaw>, AllocError> {
+fn flaw_of(asked: Asked<'_>, source: &[u8], refusal: &Refusal) -> Result<Option<Flaw>, AllocError> {
     let Some(number) = refusal.number() else {
         return Ok(None);
     };
+    let alloc = asked.alloc;
     match refusal {
-        Refusal::Text(_) => program_flaw(alloc, limits, source, number),
+        Refusal::Text(_) => program_flaw(alloc, asked.limits, source, number),
         Refusal::Loading(unloaded) => match unloaded.offence() {
             Some(offence) => declaration_flaw(alloc, source, offence),
             None => Ok(None),
         },
         Refusal::Natives(misfit) => native_flaw(alloc, source, *misfit),
+        Refusal::Certificate(_) if asked.is_settling => settling_flaw(alloc, source),
         Refusal::Certificate(_) => certificate_flaw(alloc, source),
         Refusal::Script(ScriptFault::BadLine(line)) => script_flaw(alloc, source, *line),
         Refusal::Script(_) => script_size_flaw(alloc, source),
@@ -185,16 +181,15 @@ fn flaw_of(
 /// Adds why a program has no certificate, and what leads to that.
 fn push_missing(
     text: &mut String,
-    alloc: Global,
-    input: Option<&[u8]>,
+    asked: Asked<'_>,
     meta: &Meta,
     about: Option<&str>,
 ) -> Result<(), AllocError> {
     let Some(about) = about else {
         return Ok(());
     };
-    if let Some(input) = input {
-        push_errors(text, alloc, input, meta, None)?;
+    if let Some(input) = asked.input {
+        push_errors(text, asked.alloc, input, meta, None)?;
     }
     writeln!(text, "no certificate: {about}")
 }
@@ -202,33 +197,28 @@ fn push_missing(
 /// Adds why a program has no settling certificate that has this circle, and what stands against it that the circle comes to rest.
 fn push_unsettled(
     text: &mut String,
-    alloc: Global,
-    input: Option<&[u8]>,
+    asked: Asked<'_>,
     meta: &Meta,
     nodes: &[Node],
 ) -> Result<(), AllocError> {
-    let mut about = String::from_str(alloc, "there is a circle that doesn't settle")?;
-    if let Some(against) = obstacle_of(alloc, input, meta, nodes)? {
+    let mut about = String::from_str(asked.alloc, "there is a circle that doesn't settle")?;
+    if let Some(input) = asked.input
+        && let Some(against) = obstacle_of(asked.alloc, input, meta, nodes)?
+    {
         write!(about, ": {against}, or make a wire `queued`")?;
     }
-    push_missing(text, alloc, input, meta, Some(about.as_str()))
+    push_missing(text, asked, meta, Some(about.as_str()))
 }
 
-/// What stands against that, where the input is known.
+/// What stands against that.
 fn obstacle_of(
     alloc: Global,
-    input: Option<&[u8]>,
+    input: &[u8],
     meta: &Meta,
     nodes: &[Node],
 ) -> Result<Option<String>, AllocError> {
-    let Some(input) = input else {
-        return Ok(None);
-    };
-    let spans = text_spans(alloc, input)?;
-    let Some(span) = TextKind::Program.span(spans.as_slice()) else {
-        return Ok(None);
-    };
-    let Some(program) = declarations_of(alloc, source_of(input, span))? else {
+    let text = PlacedText::of(alloc, input, TextKind::Program)?;
+    let Some(program) = declarations_of(alloc, text.source())? else {
         return Ok(None);
     };
     let source = ProgramSource {
@@ -247,21 +237,17 @@ fn push_errors(
     meta: &Meta,
     denied: Option<&Denied>,
 ) -> Result<(), AllocError> {
-    let spans = text_spans(alloc, input)?;
-    let spans = spans.as_slice();
-    let Some(program) = TextKind::Program.span(spans) else {
-        return Ok(());
-    };
-    let certificate = TextKind::Certificate.span(spans).unwrap_or(program);
+    let program = PlacedText::of(alloc, input, TextKind::Program)?;
+    let certificate = PlacedText::of(alloc, input, TextKind::Certificate)?;
     let judged = match denied {
-        Some(denied) => Some((source_of(input, certificate), denied)),
+        Some(denied) => Some((certificate.source(), denied)),
         None => None,
     };
-    let found = found_errors(alloc, source_of(input, program), meta, judged)?;
+    let found = found_errors(alloc, program.source(), meta, judged)?;
     let names = FileNames {
         program: INPUT,
         certificate: INPUT,
-        certificate_lines: lines_before(input, certificate.begin),
+        certificate_lines: certificate.lines_before(),
         places: None,
     };
     for finding in found.errors.iter().take(MOST_TOLD) {
@@ -271,12 +257,6 @@ fn push_errors(
         0 => Ok(()),
         more => writeln!(text, "and {more} more errors, which `verdict` tells"),
     }
-}
-
-/// How many lines stand in front of this byte.
-fn lines_before(input: &[u8], at: usize) -> usize {
-    let front = input.get(..at).unwrap_or(&[]);
-    front.iter().filter(|byte| **byte == b'\n').count()
 }
 
 /// What a reason says, in one sentence; running out of memory says nothing of the program.
@@ -317,9 +297,4 @@ fn are_properties(nodes: &[Node]) -> bool {
     nodes
         .iter()
         .all(|node: &Node| matches!(node.member, Member::Property(_)))
-}
-
-/// The bytes of a text of the input.
-fn source_of(input: &[u8], span: Span) -> &[u8] {
-    input.get(span.begin..span.end).unwrap_or(&[])
 }

@@ -1,7 +1,7 @@
 //! Which part of a refused event is wrong, and what may be meant.
 
 use crate::reports::known::{KnownNames, MemberSort, class_names, member_names, spelled};
-use diagnostics::did_you_mean;
+use diagnostics::{Printed, did_you_mean};
 use std::alloc::{AllocError, Global};
 use syntax_trees::Program;
 use texts::PlacedToken;
@@ -53,10 +53,7 @@ pub fn blame_of<'e>(
         (30 | 43, _) => Ok(Blame::at(1)),
         (31, _) => event.unknown_object(known),
         (32, _) => event.first_object(),
-        (33, Some(program)) => {
-            let names = class_names(alloc, program)?;
-            event.meant(2, names.as_slice())
-        }
+        (33, Some(program)) => event.unknown_class(program),
         (42, _) => event.meant(event.loop_token(), known.loop_names()),
         (44, Some(program)) => event.unknown_site(program),
         (45, _) => Ok(Blame::at(event.value_token())),
@@ -81,6 +78,13 @@ impl<'e> BlamedEvent<'e> {
     /// Whether the event begins with this word.
     fn is(&self, verb: &[u8]) -> bool {
         self.spelled(0) == verb
+    }
+
+    /// Whether the token of this number is one of these.
+    fn is_among(&self, token: usize, names: &[&[u8]]) -> bool {
+        names
+            .iter()
+            .any(|name: &&[u8]| *name == self.spelled(token))
     }
 
     /// The token of this number is wrong, and one of these may be meant.
@@ -147,6 +151,23 @@ impl<'e> BlamedEvent<'e> {
         Ok(Blame::whole())
     }
 
+    /// The class that isn't there. In C++ the class stands before the object's name.
+    fn unknown_class(&self, program: &Program) -> Result<Blame, AllocError> {
+        let names = class_names(self.alloc, program)?;
+        let blame = self.meant(2, names.as_slice())?;
+        if blame.advice.is_some() || !self.is_among(1, names.as_slice()) {
+            return Ok(blame);
+        }
+        let (class, object) = (Printed(self.spelled(1)), Printed(self.spelled(2)));
+        let advice = format!(in self.alloc;
+            "the object's name comes first, and then its class: write `new {object} {class}`"
+        )?;
+        Ok(Blame {
+            token: 2,
+            advice: Some(advice),
+        })
+    }
+
     /// The event loop's name.
     fn loop_token(&self) -> usize {
         if self.is(b"new") {
@@ -164,7 +185,7 @@ impl<'e> BlamedEvent<'e> {
         for site in program.sites.as_slice() {
             names.push(site.name.bytes())?;
         }
-        if names.iter().any(|name: &&[u8]| *name == self.spelled(1)) {
+        if self.is_among(1, names.as_slice()) {
             return Ok(Blame::whole());
         }
         self.meant(1, names.as_slice())
@@ -198,7 +219,7 @@ impl<'e> BlamedEvent<'e> {
             return self.no_member(known, program, 1, 3, MemberSort::Slot);
         }
         let signals = self.members(known, program, 1, MemberSort::Signal)?;
-        if signals.iter().any(|name: &&[u8]| *name == self.spelled(2)) {
+        if self.is_among(2, signals.as_slice()) {
             let receiver = self.behind_signature();
             let method = receiver.saturating_add(1);
             return self.no_member(known, program, receiver, method, MemberSort::Method);
@@ -230,10 +251,7 @@ impl<'e> BlamedEvent<'e> {
         sort: MemberSort,
     ) -> Result<Blame, AllocError> {
         let names = self.members(known, program, object, sort)?;
-        if names
-            .iter()
-            .any(|name: &&[u8]| *name == self.spelled(member))
-        {
+        if self.is_among(member, names.as_slice()) {
             let advice = "it is declared with another number of parameters, or with other types";
             return Ok(Blame {
                 token: member,

@@ -1,8 +1,10 @@
 //! What is reported of a fault.
 
+use crate::placed::PlacedText;
 use crate::reports::active::active;
-use crate::reports::script::Script;
+use crate::reports::events::{EventLine, event_line};
 use command_lines::Output;
+use diagnostics::{Flaw, Severity, TextKind};
 use std::alloc::{AllocError, Global};
 use std::str;
 use trace_entries::{Entry, Fault};
@@ -29,7 +31,7 @@ pub fn fault_report(
 ) -> Result<String, AllocError> {
     let mut text = String::new(alloc);
     let script = match input {
-        Some(input) => Some(Script::of(alloc, input)?),
+        Some(input) => Some(PlacedText::of(alloc, input, TextKind::Script)?),
         None => None,
     };
     let number = fault.number();
@@ -63,14 +65,20 @@ fn event_of(entries: &[Entry]) -> Option<u64> {
 fn push_event(
     text: &mut String,
     alloc: Global,
-    script: Option<Script<'_>>,
+    script: Option<PlacedText<'_>>,
     event: u64,
     sentence: String,
 ) -> Result<(), AllocError> {
     if let Some(script) = script
-        && let Some(found) = script.event_line(alloc, event)?
+        && let Some(EventLine { line, at }) = event_line(alloc, script.source(), event)?
     {
-        return script.push_event(text, found, sentence);
+        let indent = line.len().saturating_sub(line.trim_ascii_start().len());
+        let flaw = Flaw {
+            at: at.saturating_add(indent),
+            sentence,
+            advice: None,
+        };
+        return script.push(text, Severity::Error, &flaw);
     }
     text.push_str(sentence.as_str())?;
     text.push('\n')

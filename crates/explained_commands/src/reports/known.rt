@@ -1,9 +1,9 @@
 //! What a run has made by an event, and what its program declares, by names.
 
-use sqlite_items::Items;
+use crate::placed::tokens_of;
 use std::alloc::{AllocError, Global};
 use syntax_trees::{Class, Program};
-use texts::{PlaceFault, PlacedToken, placed_tokens};
+use texts::PlacedToken;
 
 /// The event loop that is there from the beginning.
 const MAIN: &[u8] = b"main";
@@ -21,15 +21,6 @@ pub struct KnownNames<'a> {
     alloc: Global,
     objects: Vec<MadeObject<'a>>,
     loops: Vec<&'a [u8]>,
-}
-
-/// The tokens of an event's line, which is cut into them.
-pub fn line_tokens(alloc: Global, line: &[u8]) -> Result<Items<PlacedToken>, AllocError> {
-    match placed_tokens(alloc, line) {
-        Ok(tokens) => Ok(tokens),
-        Err(PlaceFault::BadByte(_)) => Ok(Items::new(alloc)),
-        Err(PlaceFault::Memory) => Err(AllocError),
-    }
 }
 
 /// The token of this number, counted from 0, as it is spelled; nothing where there is none.
@@ -58,7 +49,7 @@ impl<'a> KnownNames<'a> {
         if !front.starts_with(b"new") && !front.starts_with(b"loop") {
             return Ok(());
         }
-        let tokens = line_tokens(self.alloc, line)?;
+        let tokens = tokens_of(self.alloc, line)?;
         let tokens = tokens.as_slice();
         let verb = spelled(line, tokens, 0);
         if verb == b"new".as_slice() {

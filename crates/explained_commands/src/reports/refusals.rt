@@ -1,11 +1,12 @@
 //! What is reported of refused events.
 
+ghost use Rattle.std.specs.Prelude.{◌↔◌, IsTrue};
+ghost use Rattle.explained_commands.specs.Refused.{HasRefused, IsRefused};
+
+use crate::placed::{PlacedText, some_text, tokens_of};
 use crate::reports::blame::{Blame, blame_of, needs_program};
-use crate::reports::known::{KnownNames, line_tokens};
-use diagnostics::{
-    Flaw, Printed, Severity, Span, TextKind, has_tokens, meaning, number_behind, push_flaw,
-    text_spans,
-};
+use crate::reports::known::KnownNames;
+use diagnostics::{Flaw, Printed, Severity, TextKind, has_tokens, meaning, number_behind};
 use program_flaws::declarations_of;
 use std::alloc::{AllocError, Global};
 use syntax_trees::Program;
@@ -47,7 +48,7 @@ pub fn refusal_report(
     let mut text = String::new(alloc);
     let untold = match input {
         Some(input) => {
-            let script = RefusedScript::of(alloc, input, refused.as_slice())?;
+            let script = RefusedScript::of(alloc, input, refused.as_slice(), most)?;
             script.push_refusals(&mut text, refused.as_slice(), most)?
         }
         None => push_unplaced(&mut text, refused.as_slice(), most)?,
@@ -60,11 +61,7 @@ pub fn refusal_report(
             "and {more} more events were refused: `GAMMONFIG_EXPLAIN=1` tells all"
         )?,
     }
-    if text.is_empty() {
-        Ok(None)
-    } else {
-        Ok(Some(text))
-    }
+    Ok(some_text(text))
 }
 
 /// The refused events of a trace, in their order.
@@ -99,8 +96,7 @@ fn push_unplaced(
 #[derive(Drop)]
 struct RefusedScript<'a> {
     alloc: Global,
-    input: &'a [u8],
-    span: Span,
+    text: PlacedText<'a>,
     program: Option<Program>,
 }
 
@@ -116,41 +112,37 @@ struct ReportedEvent<'a> {
 }
 
 impl<'a> RefusedScript<'a> {
-    /// The script of this input, which is its last text. The program is read only where one of these events has a reason of
-    /// which it can say more.
+    /// The script of this input. The program is read only where one of these events is reported, and has a reason of which it can
+    /// say more.
     fn of(
         alloc: Global,
         input: &'a [u8],
         refused: &[RefusedEvent],
+        most: usize,
     ) -> Result<RefusedScript<'a>, AllocError> {
-        let spans = text_spans(alloc, input)?;
-        let whole = Span {
-            begin: 0,
-            end: input.len(),
-        };
-        let program = if refused.iter().any(|refused| needs_program(refused.reason)) {
-            let span = TextKind::Program.span(spans.as_slice()).unwrap_or(whole);
-            declarations_of(alloc, input.get(span.begin..span.end).unwrap_or(&[]))?
+        let is_needed = most > 0 && refused.iter().any(|refused| needs_program(refused.reason));
+        let program = if is_needed {
+            let text = PlacedText::of(alloc, input, TextKind::Program)?;
+            declarations_of(alloc, text.source())?
         } else {
             None
         };
         Ok(RefusedScript {
             alloc,
-            input,
-            span: TextKind::Script.span(spans.as_slice()).unwrap_or(whole),
+            text: PlacedText::of(alloc, input, TextKind::Script)?,
             program,
         })
     }
 
-    /// Adds what is reported of the first so many of these events, and answers how many are left. Behind the last one that is
-    /// reported, lines are only looked at for comments.
+    /// Adds what is reported of the first so many of these events, and answers how many are left, without those that a comment
+    /// expects. Behind the last one that is reported, lines are only looked at for comments.
     fn push_refusals(
         &self,
         text: &mut String,
         refused: &[RefusedEvent],
         most: usize,
     ) -> Result<usize, AllocError> {
-        let script = self.input.get(self.span.begin..).unwrap_or(&[]);
+        let script = self.text.source();
         let mut known = KnownNames::new(self.alloc)?;
         let mut left = script;
         let mut event = 0u64;
@@ -189,7 +181,7 @@ impl<'a> RefusedScript<'a> {
             };
             self.push_refusal(text, reported, &known)?;
         }
-        Ok(untold)
+        Ok(untold.saturating_add(rest_refused.len()))
     }
 
     /// Adds what is reported of an event, before which these names were made.
@@ -205,7 +197,7 @@ impl<'a> RefusedScript<'a> {
             at,
             is_guessed,
         } = reported;
-        let tokens = line_tokens(self.alloc, line)?;
+        let tokens = tokens_of(self.alloc, line)?;
         let tokens = tokens.as_slice();
         let Blame { token, advice } = if is_guessed {
             let program = self.program.as_ref();
@@ -228,14 +220,7 @@ impl<'a> RefusedScript<'a> {
             sentence,
             advice,
         };
-        push_flaw(
-            text,
-            Severity::Warning,
-            self.input,
-            self.span,
-            TextKind::Script,
-            &flaw,
-        )
+        self.text.push(text, Severity::Warning, &flaw)
     }
 }
 
@@ -247,52 +232,36 @@ fn is_expected(line: &[u8], reason: u8) -> bool {
     }
 }
 
-/// Whether an event was refused in a run with this trace, and no comment in its line expects that. Where the script isn't known, or
-/// there is no memory to look, none does.
-pub fn has_unexpected(alloc: Global, input: Option<&[u8]>, trace: &[Entry]) -> bool {
-    let Ok(refused) = refused_events(alloc, trace) else {
-        return true;
-    };
-    if refused.is_empty() {
-        return false;
-    }
-    match input {
-        Some(input) => finds_unexpected(alloc, input, refused.as_slice()).unwrap_or(true),
-        None => true,
+/// Whether an event was refused in a run with this trace, and no comment in its line expects that. Where there is no memory to look,
+/// none does.
+pub fn has_unexpected(alloc: Global, input: &[u8], trace: &[Entry]) -> bool
+    ensures { IsTrue result → HasRefused trace.now }
+{
+    has_refused(trace) && unexpected_in(alloc, input, trace).unwrap_or(usize::MAX) > 0
+}
+
+/// Whether the trace has a refused event.
+pub fn has_refused(trace: &[Entry]) -> bool
+    ensures { IsTrue result ↔ HasRefused trace.now }
+{
+    trace.iter().any(|entry| is_refused(entry))
+}
+
+/// Whether the entry is of a refused event.
+fn is_refused(entry: &Entry) -> bool
+    ensures { IsTrue result ↔ IsRefused entry.now }
+{
+    match entry {
+        Entry::Refused(_, _) => true,
+        Entry::Accepted(_) | Entry::At(_, _) => false,
     }
 }
 
-/// Whether no comment expects one of these events to be refused.
-fn finds_unexpected(
-    alloc: Global,
-    input: &[u8],
-    refused: &[RefusedEvent],
-) -> Result<bool, AllocError> {
-    let spans = text_spans(alloc, input)?;
-    let begin = match TextKind::Script.span(spans.as_slice()) {
-        Some(span) => span.begin,
-        None => 0,
-    };
-    let mut left = input.get(begin..).unwrap_or(&[]);
-    let mut event = 0u64;
-    let mut next = 0usize;
-    while let Some((line, rest)) = split_line(left) {
-        left = rest;
-        let Some(found) = refused.get(next) else {
-            return Ok(false);
-        };
-        if !has_event(alloc, line)? {
-            continue;
-        }
-        event = event.saturating_add(1);
-        if found.event == event {
-            if !is_expected(line, found.reason) {
-                return Ok(true);
-            }
-            next = next.saturating_add(1);
-        }
-    }
-    Ok(next < refused.len())
+/// How many refused events of the trace no comment expects.
+fn unexpected_in(alloc: Global, input: &[u8], trace: &[Entry]) -> Result<usize, AllocError> {
+    let refused = refused_events(alloc, trace)?;
+    let script = RefusedScript::of(alloc, input, refused.as_slice(), 0)?;
+    script.push_refusals(&mut String::new(alloc), refused.as_slice(), 0)
 }
 
 /// Whether a line has an event, which begins with a word: so most lines needn't be cut into tokens.

@@ -2,17 +2,12 @@
 
 ghost use Rattle.std.specs.Prelude.{◌≤◌, length, IfOk, IfSome};
 
-use crate::declarations::declarations::declared_at;
 use crate::declarations::likely::likely;
-use crate::declarations::source::source_of;
-use crate::declarations::walk::first_token;
 use crate::declarations::words::ReportedOffence;
-use basic_types::Name;
-use class_outlines::{Declaration, Offence};
+use crate::source::ReadProgram;
+use class_outlines::Offence;
 use diagnostics::Flaw;
 use std::alloc::{AllocError, Global};
-use syntax_trees::Program;
-use texts::{PlacedToken, Token};
 
 /// What is wrong with the declaration for which loading refuses a program of this text. The place is that of the name that is
 /// wrong. `None` where the text is no program.
@@ -23,26 +18,14 @@ pub fn declaration_flaw(
 ) -> Result<Option<Flaw>, AllocError>
     ensures { IfOk result (λ flaw. IfSome flaw (λ f. f.at ≤ length text.now)) }
 {
-    let Some(source) = source_of(alloc, text)? else {
+    let Some(read) = ReadProgram::of(alloc, text)? else {
         return Ok(None);
     };
-    match of_offence(alloc, &source.program, source.tokens.as_slice(), offence)? {
-        Some(flaw) => Ok(Some(flaw.within(0, text.len()))),
-        None => Ok(None),
-    }
-}
-
-/// The flaw that refuses the program.
-fn of_offence(
-    alloc: Global,
-    program: &Program,
-    tokens: &[PlacedToken],
-    offence: &Offence,
-) -> Result<Option<Flaw>, AllocError> {
-    match told_at(alloc, program, tokens, offence.declaration, offence.name) {
-        Some(told) => Ok(Some(told_flaw(&told, offence)?)),
-        None => Ok(None),
-    }
+    let Some(told) = ReportedOffence::of(alloc, &read, offence.declaration, offence.name) else {
+        return Ok(None);
+    };
+    let flaw = told_flaw(&told, offence)?;
+    Ok(Some(flaw.within(0, text.len())))
 }
 
 /// The flaw, in words.
@@ -63,34 +46,4 @@ fn advice_on(
         (None, 11 | 13..=15) => likely(told.alloc, told.program, told.name),
         (None, _) => Ok(None),
     }
-}
-
-/// The declaration, with its name of this number.
-pub fn told_at<'a>(
-    alloc: Global,
-    program: &'a Program,
-    tokens: &'a [PlacedToken],
-    declaration: Declaration,
-    name: usize,
-) -> Option<ReportedOffence<'a>> {
-    let declared = declared_at(program, declaration)?;
-    let first = first_token(tokens, declaration)?;
-    let (at, name) = name_of(tokens, first, name)?;
-    Some(ReportedOffence {
-        alloc,
-        program,
-        declared,
-        at,
-        name,
-    })
-}
-
-/// The name of this number, counted from 0, behind the token at this place, with its own place.
-fn name_of(tokens: &[PlacedToken], from: usize, number: usize) -> Option<(usize, &Name)> {
-    let behind = tokens.get(from..)?;
-    let mut names = behind.iter().filter_map(|placed| match &placed.token {
-        Token::Name(name) => Some((placed.at, name)),
-        _ => None,
-    });
-    names.nth(number)
 }

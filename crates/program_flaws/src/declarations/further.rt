@@ -1,14 +1,15 @@
 //! What is wrong with declarations behind the first one that refuses a program: what is wrong is taken out of the text, by blanks
 //! in its place, and the rest loaded again.
 
-use crate::declarations::flaws::{told_at, told_flaw};
-use crate::declarations::source::source_of;
-use crate::declarations::walk::first_token;
+use crate::declarations::flaws::told_flaw;
+use crate::declarations::words::ReportedOffence;
+use crate::places::ProgramPlaces;
+use crate::source::ReadProgram;
 use class_outlines::{Declaration, LoadFault, Member, Offence, Reason};
 use diagnostics::Flaw;
 use meta_objects::load;
 use std::alloc::{AllocError, Global};
-use texts::{PlacedToken, Symbol, Token, Word};
+use texts::Symbol;
 
 /// So many bytes are loaded again at most.
 const MOST_LOADED: usize = 4194304;
@@ -88,141 +89,82 @@ fn blank(text: &mut Vec<u8>, repair: Repair) {
 
 /// The first flaw of this text; `None` where it has none that is known.
 fn next_flaw(alloc: Global, text: &[u8]) -> Result<Option<NextFlaw>, AllocError> {
-    let Some(source) = source_of(alloc, text)? else {
+    let Some(read) = ReadProgram::of(alloc, text)? else {
         return Ok(None);
     };
-    let offence = match load(alloc, &source.program) {
-        Err(LoadFault::Offence(offence)) => offence,
-        Err(LoadFault::Memory) => return Err(AllocError),
-        Ok(_) => return Ok(None),
-    };
-    let tokens = source.tokens.as_slice();
-    let Some(told) = told_at(
-        alloc,
-        &source.program,
-        tokens,
-        offence.declaration,
-        offence.name,
-    ) else {
+    match load(alloc, &read.program) {
+        Err(LoadFault::Offence(offence)) => offence_in(alloc, &read, &offence),
+        Err(LoadFault::Memory) => Err(AllocError),
+        Ok(_) => Ok(None),
+    }
+}
+
+/// The offence of what is read, as a flaw.
+fn offence_in(
+    alloc: Global,
+    read: &ReadProgram,
+    offence: &Offence,
+) -> Result<Option<NextFlaw>, AllocError> {
+    let Some(told) = ReportedOffence::of(alloc, read, offence.declaration, offence.name) else {
         return Ok(None);
     };
-    let repair = repair_of(tokens, &offence, told.at);
-    let is_independent = !matches!(
-        offence.reason,
-        Reason::NoBase(_) | Reason::NoMember(_) | Reason::NoType(_)
-    );
+    let flaw = told_flaw(&told, offence)?;
     Ok(Some(NextFlaw {
         further: FurtherFlaw {
             number: offence.number(),
-            flaw: told_flaw(&told, &offence)?,
+            flaw,
         },
-        is_independent,
-        repair,
+        is_independent: !matches!(
+            offence.reason,
+            Reason::NoBase(_) | Reason::NoMember(_) | Reason::NoType(_)
+        ),
+        repair: repair_of(&read.places, offence, &told),
     }))
 }
 
-/// What to take out for this offence, whose name stands at this byte.
-fn repair_of(tokens: &[PlacedToken], offence: &Offence, at: usize) -> Option<Repair> {
-    let first = first_token(tokens, offence.declaration)?;
-    let name = (first..tokens.len()).find(|number| place(tokens, *number) == Some(at))?;
+/// What to take out for this offence.
+fn repair_of(places: &ProgramPlaces, offence: &Offence, told: &ReportedOffence) -> Option<Repair> {
     let (begin, end, loses) = match (&offence.reason, offence.declaration) {
         // The base, with its colon.
-        (Reason::NoBase(_), _) => (name.checked_sub(1)?, name, true),
+        (Reason::NoBase(_), _) => (told.token.checked_sub(1)?, told.token, true),
         (Reason::BadNotify(_), _) => (
-            name.checked_sub(1)?,
-            behind(tokens, name, Symbol::Close)?,
+            told.token.checked_sub(1)?,
+            places.next(told.token, Symbol::Close)?,
             false,
         ),
-        (Reason::NoMember(_), Declaration::Member(_, Member::Slot(_))) => statement(
-            tokens, first, name,
-        )?,
+        (Reason::NoMember(_), Declaration::Member(_, Member::Slot(_))) => {
+            let (begin, end) = work_around(places, offence.declaration, told)?;
+            (begin, end, false)
+        }
         (_, Declaration::Member(..) | Declaration::Class(_)) => {
             let is_repeated = matches!(offence.reason, Reason::DuplicateMember(_));
-            (first, end_of(tokens, first)?, !is_repeated)
+            (told.part.first, told.part.last, !is_repeated)
         }
-        _ => (first, end_of(tokens, first)?, false),
+        _ => (told.part.first, told.part.last, false),
     };
     Some(Repair {
-        begin: tokens.get(begin)?.at,
-        end: tokens.get(end)?.end,
+        begin: places.token(begin)?.at,
+        end: places.token(end)?.end,
         loses,
     })
 }
 
-/// Where the token begins.
-fn place(tokens: &[PlacedToken], number: usize) -> Option<usize> {
-    Some(tokens.get(number)?.at)
-}
-
-/// The first token from this one on that is this symbol.
-fn behind(tokens: &[PlacedToken], from: usize, symbol: Symbol) -> Option<usize> {
-    (from..tokens.len()).find(|at| is(tokens, *at, symbol))
-}
-
-/// Whether the token is this symbol.
-fn is(tokens: &[PlacedToken], at: usize, symbol: Symbol) -> bool {
-    match tokens.get(at) {
-        Some(placed) => match &placed.token {
-            Token::Symbol(found) => *found == symbol,
-            _ => false,
-        },
-        None => false,
-    }
-}
-
-/// The last token of the declaration that begins with this one: its `;`, or the brace that closes it.
-fn end_of(tokens: &[PlacedToken], first: usize) -> Option<usize> {
-    let end = (first..tokens.len()).find(|at| is(tokens, *at, Symbol::Semicolon)
-        || is(tokens, *at, Symbol::OpenBrace))?;
-    if is(tokens, end, Symbol::Semicolon) {
-        return Some(end);
-    }
-    closing(tokens, end)
-}
-
-/// The brace that closes this one.
-fn closing(tokens: &[PlacedToken], open: usize) -> Option<usize> {
-    let mut depth = 0usize;
-    for at in open..tokens.len() {
-        if is(tokens, at, Symbol::OpenBrace) {
-            depth = depth.saturating_add(1);
-        } else if is(tokens, at, Symbol::CloseBrace) {
-            depth = depth.saturating_sub(1);
-            if depth == 0 {
-                return Some(at);
-            }
+/// The statement of the slot that has the name, or where it has a block of its own the whole body; of a native what it is
+/// declared to do.
+fn work_around(
+    places: &ProgramPlaces,
+    slot: Declaration,
+    told: &ReportedOffence,
+) -> Option<(usize, usize)> {
+    let before = if places.symbol(told.part.last) == Some(Symbol::Semicolon) {
+        places.next(told.part.first, Symbol::Close)?
+    } else {
+        if let Some(statement) = places.statement_around(slot, told.token)
+            && places.symbol(statement.last) == Some(Symbol::Semicolon)
+        {
+            return Some((statement.first, statement.last));
         }
-    }
-    None
-}
-
-/// The statement around this name in the slot that begins with the first token, or where it has a block of its own the whole
-/// body; of a native what it is declared to do.
-fn statement(tokens: &[PlacedToken], first: usize, name: usize) -> Option<(usize, usize, bool)> {
-    let is_native = matches!(&tokens.get(first)?.token, Token::Word(Word::Native));
-    if is_native {
-        let close = behind(tokens, first, Symbol::Close)?;
-        let end = behind(tokens, close, Symbol::Semicolon)?;
-        return Some((close.checked_add(1)?, end.checked_sub(1)?, false));
-    }
-    let open = behind(tokens, first, Symbol::OpenBrace)?;
-    let mut begin = open;
-    for at in open..name {
-        if ends(tokens, at) {
-            begin = at.checked_add(1)?;
-        }
-    }
-    let end = (name..tokens.len()).find(|at| ends(tokens, *at))?;
-    if is(tokens, end, Symbol::Semicolon) {
-        return Some((begin, end, false));
-    }
-    let close = closing(tokens, open)?;
-    Some((open.checked_add(1)?, close.checked_sub(1)?, false))
-}
-
-/// Whether a statement ends with the token, or a block begins or ends.
-fn ends(tokens: &[PlacedToken], at: usize) -> bool {
-    is(tokens, at, Symbol::Semicolon)
-        || is(tokens, at, Symbol::OpenBrace)
-        || is(tokens, at, Symbol::CloseBrace)
+        places.next(told.part.first, Symbol::OpenBrace)?
+    };
+    Some((before.checked_add(1)?, told.part.last.checked_sub(1)?))
 }

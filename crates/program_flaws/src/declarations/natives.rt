@@ -2,15 +2,15 @@
 
 ghost use Rattle.std.specs.Prelude.{◌≤◌, length, IfOk, IfSome};
 
-use crate::declarations::flaws::told_at;
-use crate::declarations::source::{ParsedProgram, source_of};
-use class_outlines::{Declaration, LoadFault, Member, names_before_work, names_of_sig};
+use crate::declarations::words::ReportedOffence;
+use crate::source::{ProgramSource, ReadProgram};
+use class_outlines::{LoadFault, names_before_work, names_of_sig};
 use diagnostics::Flaw;
-use meta_model::Meta;
+use effect_scan::{Member, Node};
 use meta_objects::load;
 use native_slots::{Difference, Misfit, NativePlace};
 use std::alloc::{AllocError, Global};
-use syntax_trees::{Program, Slot, SlotWork};
+use syntax_trees::{Slot, SlotWork};
 
 /// The native for which a loaded program is refused: it has no closure (17), or its closure has other effects (18). The place
 /// is that of its name, or of the first one in the list that differs. `None` where the text is no program that loads, or has
@@ -18,59 +18,46 @@ use syntax_trees::{Program, Slot, SlotWork};
 pub fn native_flaw(alloc: Global, text: &[u8], misfit: Misfit) -> Result<Option<Flaw>, AllocError>
     ensures { IfOk result (λ flaw. IfSome flaw (λ f. f.at ≤ length text.now)) }
 {
-    let Some(source) = source_of(alloc, text)? else {
+    let Some(read) = ReadProgram::of(alloc, text)? else {
         return Ok(None);
     };
-    match misfit_flaw(alloc, &source, misfit)? {
+    match misfit_flaw(alloc, &read, misfit)? {
         Some(flaw) => Ok(Some(flaw.within(0, text.len()))),
         None => Ok(None),
     }
 }
 
-/// The same of this program.
+/// The same of what is read.
 fn misfit_flaw(
     alloc: Global,
-    source: &ParsedProgram,
+    read: &ReadProgram,
     misfit: Misfit,
 ) -> Result<Option<Flaw>, AllocError> {
-    match load(alloc, &source.program) {
-        Ok(meta) => loaded_flaw(alloc, source, &meta, misfit),
+    match load(alloc, &read.program) {
+        Ok(meta) => loaded_flaw(read, read.source(alloc, &meta), misfit),
         Err(LoadFault::Offence(_)) => Ok(None),
         Err(LoadFault::Memory) => Err(AllocError),
     }
 }
 
-/// The same of this program, which loads so.
+/// The same, where the program loads so.
 fn loaded_flaw(
-    alloc: Global,
-    source: &ParsedProgram,
-    meta: &Meta,
+    read: &ReadProgram,
+    source: ProgramSource<'_>,
     misfit: Misfit,
 ) -> Result<Option<Flaw>, AllocError> {
-    let Some((declaration, slot)) = declared_native(&source.program, meta, misfit.place()) else {
+    let NativePlace { class, method } = misfit.place();
+    let member = Member::Method(method);
+    let native = Node { class, member };
+    let (Some(declaration), Some(slot)) = (source.declaration(native), source.slot(native)) else {
         return Ok(None);
     };
     let wrong = wrong_in(slot, misfit);
-    let tokens = source.tokens.as_slice();
-    let Some(told) = told_at(alloc, &source.program, tokens, declaration, wrong.name) else {
+    let Some(told) = ReportedOffence::of(source.alloc, read, declaration, wrong.name) else {
         return Ok(None);
     };
-    let advice = String::from_str(alloc, wrong.advice)?;
+    let advice = String::from_str(source.alloc, wrong.advice)?;
     Ok(Some(told.flaw(wrong.words, Some(advice))?))
-}
-
-/// The declaration of the native at this place.
-fn declared_native<'p>(
-    program: &'p Program,
-    meta: &Meta,
-    place: NativePlace,
-) -> Option<(Declaration, &'p Slot)> {
-    let number = place.class.checked_sub(1)?;
-    let class = program.classes.get(number)?;
-    let own = place.method.checked_sub(meta.method_offset(place.class))?;
-    let among_slots = own.checked_sub(class.signals.len())?;
-    let slot = class.slots.get(among_slots)?;
-    Some((Declaration::Member(number, Member::Slot(among_slots)), slot))
 }
 
 /// In what a native is wrong.

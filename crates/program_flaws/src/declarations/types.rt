@@ -4,7 +4,7 @@ use crate::declarations::declarations::DeclarationRef;
 use crate::declarations::finding::{DeclarationFlaw, found};
 use crate::declarations::sentence::SentencePiece;
 use crate::declarations::words::ReportedOffence;
-use basic_types::{Name, QType};
+use basic_types::{Name, QType, is_value_name};
 use class_outlines::{Unfit, names_before_parameter};
 use std::alloc::AllocError;
 
@@ -121,16 +121,11 @@ fn kind_at(declared: DeclarationRef<'_>, name: usize) -> Option<&QType> {
 /// What to write in place of a type that isn't there.
 fn unknown_advice(told: &ReportedOffence) -> Option<&'static str> {
     match told.declared {
-        DeclarationRef::Property(_, property) if is_value_type(property.name.bytes()) => Some(
+        DeclarationRef::Property(_, property) if is_value_name(property.name.bytes()) => Some(
             "the type comes first, and then the name: write `property int x;`",
         ),
         _ => kind_advice(told.name),
     }
-}
-
-/// Whether values are of the type of this name.
-fn is_value_type(name: &[u8]) -> bool {
-    name == b"int".as_slice() || name == b"bool".as_slice() || name == b"QString".as_slice()
 }
 
 /// What to write in place of a type that C++ or Qt has.

@@ -1,12 +1,14 @@
 //! What breaks a rule of loading, in words.
 
-use crate::declarations::declarations::DeclarationRef;
+use crate::declarations::declarations::{DeclarationRef, declared_at};
 use crate::declarations::finding::{DeclarationFlaw, found};
 use crate::declarations::sentence::SentencePiece;
 use crate::declarations::types::unfit_type;
 use crate::declarations::undeclared::undeclared;
+use crate::places::Part;
+use crate::source::ReadProgram;
 use basic_types::{Name, Sig};
-use class_outlines::{BasePlace, ClassClash, Near, Offence, Reason, Repeated};
+use class_outlines::{BasePlace, ClassClash, Declaration, Near, Offence, Reason, Repeated};
 use diagnostics::Flaw;
 use std::alloc::{AllocError, Global};
 use syntax_trees::{Program, Property};
@@ -18,13 +20,37 @@ pub struct ReportedOffence<'a> {
     pub program: &'a Program,
     /// The declaration.
     pub declared: DeclarationRef<'a>,
-    /// Where the name that is wrong is in the text, from 0.
-    pub at: usize,
-    /// The name.
+    /// Where it stands.
+    pub part: Part,
+    /// The name that is wrong.
     pub name: &'a Name,
+    /// Which token it is.
+    pub token: usize,
+    /// Its first byte in the text, counted from 0.
+    at: usize,
 }
 
 impl<'a> ReportedOffence<'a> {
+    /// An offence of the declaration, about its name of this number.
+    pub fn of(
+        alloc: Global,
+        read: &'a ReadProgram,
+        declaration: Declaration,
+        number: usize,
+    ) -> Option<ReportedOffence<'a>> {
+        let part = read.places.declared(declaration)?;
+        let (token, name) = read.places.name(part, number)?;
+        Some(ReportedOffence {
+            alloc,
+            program: &read.program,
+            declared: declared_at(&read.program, declaration)?,
+            part,
+            name,
+            token,
+            at: read.places.token(token)?.at,
+        })
+    }
+
     /// What is wrong, in words.
     pub fn finding(&self, offence: &Offence) -> Result<DeclarationFlaw, AllocError> {
         match &offence.reason {

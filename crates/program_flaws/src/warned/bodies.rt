@@ -1,6 +1,8 @@
 //! The slots that a program declares.
 
+use crate::statement::class_of;
 use meta_model::{Meta, MetaMethod, MetaPath, MetaRoot, Statement, ValueType, Work};
+use std::alloc::{AllocError, Global};
 
 /// A slot in the class that declares it.
 #[derive(Clone, Copy)]
@@ -33,6 +35,13 @@ impl<'m> OwnSlot<'m> {
         }
     }
 
+    /// Its statements in the order of the text, with those in its blocks and groups: each by its number there.
+    pub fn statements(&self, alloc: Global) -> Result<Vec<&'m Statement>, AllocError> {
+        let mut statements = Vec::new(alloc);
+        add_statements(self.body, &mut statements)?;
+        Ok(statements)
+    }
+
     /// The class of the objects that the path is declared to lead to; theirs may also be one below it.
     pub fn class_at(&self, path: &MetaPath) -> Option<usize> {
         match path.steps.as_slice().last() {
@@ -45,10 +54,31 @@ impl<'m> OwnSlot<'m> {
     }
 }
 
-/// The class that a value of this type refers to.
-fn class_of(kind: ValueType) -> Option<usize> {
-    match kind {
-        ValueType::Reference(class, _) => Some(class),
-        ValueType::Int | ValueType::Bool | ValueType::Text => None,
+/// Adds these statements and those that are in them.
+#[cycle(statements)]
+fn add_statements<'m>(
+    body: &'m [Statement],
+    statements: &mut Vec<&'m Statement>,
+) -> Result<(), AllocError> {
+    for statement in body {
+        add_statement(statement, statements)?;
+    }
+    Ok(())
+}
+
+/// Adds the statement and those that are in it.
+#[cycle(statements)]
+fn add_statement<'m>(
+    statement: &'m Statement,
+    statements: &mut Vec<&'m Statement>,
+) -> Result<(), AllocError> {
+    statements.push(statement)?;
+    match statement {
+        Statement::If(_, chosen, other) => {
+            add_statements(chosen.as_slice(), statements)?;
+            add_statements(other.as_slice(), statements)
+        }
+        Statement::Group(sets) => add_statements(sets.as_slice(), statements),
+        _ => Ok(()),
     }
 }

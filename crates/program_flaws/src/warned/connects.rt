@@ -10,8 +10,7 @@ ghost use Rattle.program_flaws.specs.Wires.{IsLineageOf, IsLacking, MayServe, Is
 use crate::warned::bodies::OwnSlot;
 use crate::warned::lineage::Lineage;
 use crate::warned::warning::Warning;
-use basic_types::Kind;
-use meta_model::{Meta, MetaEndpoints, MetaWire, Statement};
+use meta_model::{Meta, MetaWire, Statement};
 use std::alloc::AllocError;
 
 /// Where `connect` statements are looked for.
@@ -26,24 +25,37 @@ pub struct Wiring<'m> {
 }
 
 impl<'m> Wiring<'m> {
-    /// Adds a warning for each `connect` in the slot that no wire covers; `passed` counts all of them.
+    /// Adds a warning for each `connect` among the statements of the slot that no wire covers.
     pub fn add_unwired(
         &self,
-        passed: &mut usize,
+        statements: &[&Statement],
         found: &mut Vec<Warning>,
     ) -> Result<(), AllocError>
         requires lineage { IsLineageOf self.now.meta.now self.now.lineage.now }
         requires so { All (IsSo self.now.meta.now) found.old.items }
         ensures { IfOk result (λ _. All (IsSo self.now.meta.now) found.new.items) }
     {
-        add_in_body(self, self.slot.body, passed, found)
+        for (number, statement) in statements.iter().enumerate() {
+            if let Some(wanted) = self.lacking(*statement) {
+                found.push(Warning::Unwired {
+                    class: self.slot.class,
+                    method: self.slot.method,
+                    statement: number,
+                    wanted,
+                })?;
+            }
+        }
+        Ok(())
     }
 
-    /// The wire that the statement lacks; `None` where there is one that may cover it.
-    fn lacking(&self, ends: &MetaEndpoints, kind: Kind) -> Option<MetaWire>
+    /// The wire that the statement lacks; `None` where there is one that may cover it, and where it is no `connect`.
+    fn lacking(&self, statement: &Statement) -> Option<MetaWire>
         requires { IsLineageOf self.now.meta.now self.now.lineage.now }
         ensures { IfSome result (IsLacking self.now.meta.now) }
     {
+        let Statement::Connect(ends, how) = statement else {
+            return None;
+        };
         // The program is sound: its wires are between members that are there.
         let _classes = self.meta.classes();
         let wanted = MetaWire {
@@ -51,7 +63,7 @@ impl<'m> Wiring<'m> {
             signal: ends.signal,
             receiver: self.slot.class_at(&ends.receiver)?,
             method: ends.method,
-            kind,
+            kind: how.kind,
         };
         if self.is_served(&wanted) {
             None
@@ -83,54 +95,5 @@ impl<'m> Wiring<'m> {
             && wire.method == wanted.method
             && self.lineage.meet(wire.sender, wanted.sender)
             && self.lineage.meet(wire.receiver, wanted.receiver)
-    }
-}
-
-/// Adds a warning for each `connect` in this body, or in a block of it, that no wire covers.
-#[cycle(bodies)]
-fn add_in_body(
-    wiring: &Wiring,
-    body: &[Statement],
-    passed: &mut usize,
-    found: &mut Vec<Warning>,
-) -> Result<(), AllocError>
-    requires lineage { IsLineageOf wiring.now.meta.now wiring.now.lineage.now }
-    requires so { All (IsSo wiring.now.meta.now) found.old.items }
-    ensures { IfOk result (λ _. All (IsSo wiring.now.meta.now) found.new.items) }
-{
-    for statement in body {
-        add_in_statement(wiring, statement, passed, found)?;
-    }
-    Ok(())
-}
-
-/// Adds a warning for each `connect` that no wire covers, of this statement and of those in it.
-#[cycle(bodies)]
-fn add_in_statement(
-    wiring: &Wiring,
-    statement: &Statement,
-    passed: &mut usize,
-    found: &mut Vec<Warning>,
-) -> Result<(), AllocError>
-    requires lineage { IsLineageOf wiring.now.meta.now wiring.now.lineage.now }
-    requires so { All (IsSo wiring.now.meta.now) found.old.items }
-    ensures { IfOk result (λ _. All (IsSo wiring.now.meta.now) found.new.items) }
-{
-    match statement {
-        Statement::Connect(ends, how) => {
-            if let Some(wanted) = wiring.lacking(ends, how.kind) {
-                found.push(Warning::Unwired {
-                    connect: *passed,
-                    wanted,
-                })?;
-            }
-            *passed = passed.saturating_add(1);
-            Ok(())
-        }
-        Statement::If(_, chosen, other) => {
-            add_in_body(wiring, chosen.as_slice(), passed, found)?;
-            add_in_body(wiring, other.as_slice(), passed, found)
-        }
-        _ => Ok(()),
     }
 }

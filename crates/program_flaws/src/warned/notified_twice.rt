@@ -11,19 +11,19 @@ use crate::warned::warning::Warning;
 use meta_model::{Meta, MetaPath, MetaRoot, Statement};
 use std::alloc::{AllocError, Global};
 
-/// Adds a warning for each property that a way through the slot sets and whose notify signal the same way emits; `passed`
-/// counts the `emit` of the program.
+/// Adds a warning for each property that a way through the slot of these statements sets and whose notify signal the same way
+/// emits.
 pub fn add_notified_twice(
     alloc: Global,
     meta: &Meta,
     slot: OwnSlot<'_>,
-    passed: &mut usize,
+    statements: &[&Statement],
     found: &mut Vec<Warning>,
 ) -> Result<(), AllocError>
     requires { All (IsSo meta.now) found.old.items }
     ensures { IfOk result (λ _. All (IsSo meta.now) found.new.items) }
 {
-    let effects = OwnEffects::of(alloc, slot.body)?;
+    let effects = OwnEffects::of(alloc, statements)?;
     for property in effects.sets.as_slice() {
         if let Some(signal) = notifier(meta, slot.class, *property)
             && effects.emits.as_slice().binary_search(&signal).is_ok()
@@ -32,8 +32,8 @@ pub fn add_notified_twice(
                 property: *property,
                 signal,
             };
-            let mut number = *passed;
-            if let Some(emit) = ways_through(pair, slot.body, &mut number).both {
+            let mut passed = 0usize;
+            if let Some(emit) = ways_through(pair, slot.body, &mut passed).both {
                 found.push(Warning::NotifiedTwice {
                     class: slot.class,
                     method: slot.method,
@@ -43,7 +43,6 @@ pub fn add_notified_twice(
             }
         }
     }
-    *passed = passed.saturating_add(effects.count);
     Ok(())
 }
 
@@ -59,55 +58,33 @@ struct OwnEffects {
     sets: Vec<usize>,
     /// The signals that they emit, each once and in order.
     emits: Vec<usize>,
-    /// How many of them are an `emit`.
-    count: usize,
 }
 
 impl OwnEffects {
-    /// Those of this body.
-    fn of(alloc: Global, body: &[Statement]) -> Result<OwnEffects, AllocError> {
+    /// Those of these, which are all of them.
+    fn of(alloc: Global, statements: &[&Statement]) -> Result<OwnEffects, AllocError> {
         let mut effects = OwnEffects {
             sets: Vec::new(alloc),
             emits: Vec::new(alloc),
-            count: 0,
         };
-        add_effects(&mut effects, body)?;
+        for statement in statements {
+            effects.add(*statement)?;
+        }
         effects.sets.sort()?;
         effects.sets.dedup();
         effects.emits.sort()?;
         effects.emits.dedup();
         Ok(effects)
     }
-}
 
-/// Adds what the statements do, and those that are in them.
-#[cycle(effects)]
-fn add_effects(effects: &mut OwnEffects, body: &[Statement]) -> Result<(), AllocError> {
-    for statement in body {
-        add_effect(effects, statement)?;
-    }
-    Ok(())
-}
-
-/// Adds what the statement does, and those that are in it.
-#[cycle(effects)]
-fn add_effect(effects: &mut OwnEffects, statement: &Statement) -> Result<(), AllocError> {
-    match statement {
-        Statement::Set(path, property, _) if is_this(path) => {
-            effects.sets.push(*property)?;
-            Ok(())
+    /// Adds what the statement does by itself.
+    fn add(&mut self, statement: &Statement) -> Result<(), AllocError> {
+        match statement {
+            Statement::Set(path, property, _) if is_this(path) => self.sets.push(*property)?,
+            Statement::Emit(signal, _) => self.emits.push(*signal)?,
+            _ => {}
         }
-        Statement::Emit(signal, _) => {
-            effects.count = effects.count.saturating_add(1);
-            effects.emits.push(*signal)?;
-            Ok(())
-        }
-        Statement::If(_, chosen, other) => {
-            add_effects(effects, chosen.as_slice())?;
-            add_effects(effects, other.as_slice())
-        }
-        Statement::Group(sets) => add_effects(effects, sets.as_slice()),
-        _ => Ok(()),
+        Ok(())
     }
 }
 
@@ -167,7 +144,7 @@ impl Ways {
     }
 }
 
-/// The ways through the statements; `passed` counts each `emit`.
+/// The ways through the statements; `passed` counts these, and those that are in them.
 #[cycle(ways)]
 fn ways_through(pair: NotifyPair, body: &[Statement], passed: &mut usize) -> Ways {
     let mut ways = Ways::NEITHER;
@@ -180,23 +157,17 @@ fn ways_through(pair: NotifyPair, body: &[Statement], passed: &mut usize) -> Way
 /// The ways through the statement and those that are in it.
 #[cycle(ways)]
 fn ways_of(pair: NotifyPair, statement: &Statement, passed: &mut usize) -> Ways {
+    let number = *passed;
+    *passed = passed.saturating_add(1);
     match statement {
         Statement::Set(path, property, _) => Ways {
             sets: is_this(path) && *property == pair.property,
             ..Ways::NEITHER
         },
-        Statement::Emit(signal, _) => {
-            let number = *passed;
-            *passed = passed.saturating_add(1);
-            Ways {
-                emit: if *signal == pair.signal {
-                    Some(number)
-                } else {
-                    None
-                },
-                ..Ways::NEITHER
-            }
-        }
+        Statement::Emit(signal, _) if *signal == pair.signal => Ways {
+            emit: Some(number),
+            ..Ways::NEITHER
+        },
         Statement::If(_, chosen, other) => {
             let chosen = ways_through(pair, chosen.as_slice(), passed);
             chosen.or(ways_through(pair, other.as_slice(), passed))

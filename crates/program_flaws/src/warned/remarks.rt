@@ -3,6 +3,7 @@
 ghost use Rattle.std.specs.Prelude.{All, IfOk};
 ghost use Rattle.program_flaws.specs.Wires.{IsLineageOf, IsSo};
 
+use crate::source::ReadProgram;
 use crate::warned::bodies::OwnSlot;
 use crate::warned::connects::Wiring;
 use crate::warned::idle_wires::add_idle_wires;
@@ -16,7 +17,6 @@ use meta_model::Meta;
 use rank_check::Checked;
 use rank_make::{Ranks, Solution, Why, rank, rank_scan};
 use std::alloc::{AllocError, Global};
-use texts::{PlaceFault, placed_tokens};
 
 /// A yes to a program.
 #[derive(Clone, Copy)]
@@ -122,20 +122,16 @@ fn push_warnings(
     if found.is_empty() {
         return Ok(());
     }
-    match placed_tokens(alloc, text) {
-        Ok(tokens) => {
-            let subject = Subject {
-                alloc,
-                meta,
-                text,
-                tokens: tokens.as_slice(),
-                ranked,
-            };
-            subject.push_warnings(told, found.as_slice())
-        }
-        Err(PlaceFault::Memory) => Err(AllocError),
-        Err(PlaceFault::BadByte(_)) => Ok(()),
-    }
+    let Some(read) = ReadProgram::of(alloc, text)? else {
+        return Ok(());
+    };
+    let subject = Subject {
+        alloc,
+        meta,
+        read: &read,
+        ranked,
+    };
+    subject.push_warnings(told, found.as_slice())
 }
 
 /// What in a program that has a certificate is worth a warning, in the order of the types and of the text: with what is known
@@ -181,19 +177,18 @@ fn add_of_slots(
     requires so { All (IsSo meta.now) found.old.items }
     ensures { IfOk result (λ _. All (IsSo meta.now) found.new.items) }
 {
-    let mut connects = 0usize;
-    let mut emits = 0usize;
     // `QObject`, whose slot no text has, comes first.
     for class in 1..meta.classes().len() {
         for method in meta.method_offset(class)..meta.method_count(class) {
             if let Some(slot) = OwnSlot::of(meta, class, method) {
+                let statements = slot.statements(alloc)?;
                 let wiring = Wiring {
                     meta,
                     lineage,
                     slot,
                 };
-                wiring.add_unwired(&mut connects, found)?;
-                add_notified_twice(alloc, meta, slot, &mut emits, found)?;
+                wiring.add_unwired(statements.as_slice(), found)?;
+                add_notified_twice(alloc, meta, slot, statements.as_slice(), found)?;
             }
         }
     }

@@ -1,14 +1,12 @@
 //! How warnings are reported.
 
+use crate::source::ReadProgram;
 use crate::warned::ranked::Ranked;
-use crate::warned::spot::warned_byte;
-use crate::warned::warning::Warning;
+use crate::warned::warning::{Warning, method_node};
 use crate::{node_text, property_text, wire_text};
 use diagnostics::TextPlace;
-use effect_scan::{Member, Node};
 use meta_model::{Meta, MetaWire};
 use std::alloc::{AllocError, Global};
-use texts::PlacedToken;
 
 /// So many warnings are reported.
 const MOST_TOLD: usize = 20;
@@ -20,10 +18,8 @@ pub struct Subject<'s> {
     pub alloc: Global,
     /// The program.
     pub meta: &'s Meta,
-    /// Its text.
-    pub text: &'s [u8],
-    /// The tokens of its text.
-    pub tokens: &'s [PlacedToken],
+    /// What is read of its text.
+    pub read: &'s ReadProgram,
     /// What is known of its nodes, where that is asked for.
     pub ranked: Option<Ranked<'s>>,
 }
@@ -44,8 +40,8 @@ impl Subject<'_> {
     /// Adds the warning's line, with its place in the program, which is the input's first text, where it has one.
     fn push_warning(&self, told: &mut String, warning: &Warning) -> Result<(), AllocError> {
         told.push_str("<stdin>:")?;
-        if let Some(at) = warned_byte(self.meta, warning, self.tokens) {
-            let TextPlace { line, column } = TextPlace::of(self.text, at.min(self.text.len()));
+        let source = self.read.source(self.alloc, self.meta);
+        if let Some(TextPlace { line, column }) = warning.place(source, &self.read.places) {
             write!(told, "{line}:{column}:")?;
         }
         told.push_str(" warning: ")?;
@@ -67,8 +63,7 @@ impl Subject<'_> {
         let Some(ranked) = self.ranked else {
             return Ok(());
         };
-        let member = Member::Method(signal);
-        if let Some(number) = ranked.scan.number(Node { class, member }) {
+        if let Some(number) = ranked.scan.number(method_node(class, signal)) {
             let chain = ranked.chain_to_destruction(self.alloc, number, class)?;
             told.push_str(" (")?;
             ranked.push_chain(told, self.alloc, chain.as_slice())?;
@@ -106,8 +101,7 @@ fn method_text(
     class: usize,
     method: usize,
 ) -> Result<String, AllocError> {
-    let member = Member::Method(method);
-    node_text(alloc, meta, Node { class, member })
+    node_text(alloc, meta, method_node(class, method))
 }
 
 /// What is said of a wire that is idle beside this one.

@@ -26,6 +26,8 @@ enum HabitContext {
     Event,
     /// The first word of a certificate's first two lines.
     Setting,
+    /// The first word of a settling certificate.
+    Settling,
     /// Anywhere in a line of a script or a certificate.
     Line,
     /// The first token of a program.
@@ -71,8 +73,8 @@ macro_rules! habits {
 pub fn in_lines() -> &'static [Habit] {
     habits! {
         Event "^ binding $name $name $name/$end" => "the event is called `bind`: write `bind @1..@`";
-        Event "^ class/wire/owns/binding" => "this is a program: it stands in front of the script, and a line `%%` between them";
-        Event "^ certificate/bound/~" => "this is a certificate: it stands between the program and the script, with a line `%%` behind it";
+        Event "^ class/wire/owns/binding" => "this is a program: it comes before the script, as a file of its own or with a line `%%` behind it";
+        Event "^ certificate/settling/bound/~" => "this is a certificate: it comes between the program and the script, as a file of its own or between two lines `%%`";
         Event "^ $name = new $name" => "an object is made by `new`: write `new @0@ @3@`";
         Event "^ $name = $name (" => "an object is made by `new`: write `new @0@ @2@`";
         Event "^ $name $name = new" => "an object is made by `new`: write `new @1@ @0@`";
@@ -89,10 +91,13 @@ pub fn in_lines() -> &'static [Habit] {
         Line "new $name ^ $end/(/=" => "`new` takes the object's name and its class: write `new a @-1@`";
         Line "connect/disconnect .. ^ ./:/->/," => "the parts of a connection have blanks alone between them: write `connect a s() b m() queued`";
         Line "connect/disconnect .. $name ^ $end" => "a signature follows the object, as `changed(int)`";
-        Setting "^ class/wire/owns/binding" => "this is a program: it stands in front of the certificate, and a line `%%` between them";
-        Setting "^ new/loop/connect/set/emit/call" => "this is a script: a certificate stands in front of it, and a line `%%` between them";
-        Setting "^ $any" => "its first line is `certificate 2`, its second one `bound N`";
+        Settling "^ certificate" => "this is a certificate without steps, which is taken without `--settling`: `certify --settling` makes a settling one";
+        Setting "^ settling" => "this is a settling certificate, which `check`, `run` and `session` take with `--settling`: `certify` makes one without steps";
+        Setting "^ class/wire/owns/binding" => "this is a program: it comes before the certificate, as a file of its own or with a line `%%` behind it";
+        Setting "^ new/loop/connect/set/emit/call" => "this is a script: it comes behind a certificate, as a file of its own or with a line `%%` before it";
+        Setting "^ $any" => "its first line is `certificate 2`, its second one `bound N`; with `--settling` they are `settling 1` and `bound B S`";
         Number "^ -" => "a rank has no sign";
+        Number "$number ^ $end" => "in a settling certificate a step stands behind the bound, and behind each rank";
         Name "~/$name .. $number/$name ^ ~" => "`~C` stands for the closure of a class in `certificate 2`, and not in `certificate 1`";
     }
 }
@@ -102,9 +107,9 @@ pub fn of_declarations() -> &'static [Habit] {
     habits! {
         Declaration "^ }" => "this `}` closes nothing";
         Declaration "^ ;" => "leave this `;` out: at most one follows a class";
-        First "^ new/loop/turn/adopt/move/bind/block/unblock $name" => "this is a script: the program stands in front of it, and a line `%%` between them";
-        Declaration "^ certificate/bound $number" => "this is a certificate: the program stands in front of it, and a line `%%` between them";
-        Declaration "^ new/loop/turn/adopt/move/bind/block/unblock $name" => "this is an event: events stand in the script, behind the program and a line `%%`";
+        First "^ new/loop/turn/adopt/move/bind/block/unblock $name" => "this is a script: it comes behind the program, as a file of its own or with a line `%%` before it";
+        Declaration "^ certificate/settling/bound $number" => "this is a certificate: it comes behind the program, as a file of its own or with a line `%%` before it";
+        Declaration "^ new/loop/turn/adopt/move/bind/block/unblock $name" => "this is an event: events stand in the script, which comes behind the program, as a file of its own or with a line `%%` before it";
         Declaration "^ set/emit/call/if/connect/disconnect/delete/later/group" => "this stands in the body of a slot, or is an event of a script";
         Declaration "^ property/signal/slot/native" => "a member stands in a class, and the last class is closed in front of it";
         Declaration "^ namespace" => "there are no namespaces: write the classes alone";
@@ -112,7 +117,7 @@ pub fn of_declarations() -> &'static [Habit] {
         Declaration "^ import/include/module/export" => "a program is one text, and takes in no other";
         Declaration "^ void/int/bool/QString/auto/static/inline" => "there are no functions and variables outside of classes";
         Brace "class .. ^ ;" => "a class is declared once, with its members: write `class .. { .. }`";
-        Brace "class .. public/protected/private/virtual ^ $name" => "a base has no `@-1@`: write `class A : @0@`";
+        Brace "class .. public/protected/private/virtual ^ $name" => "a base has no `@-1@`: write `class @-3@ : @0@`";
         Brace "class .. ^ ," => "a class has one base at most";
         Brace "class .. ^ final" => "leave `final` out";
     }
@@ -336,6 +341,7 @@ impl HabitContext {
             HabitContext::Literal => Wanted::Text,
             HabitContext::Kind => Wanted::Word(Word::Auto),
             HabitContext::Event => Wanted::Verb,
+            HabitContext::Settling => Wanted::Spelled(b"settling"),
             HabitContext::Name => Wanted::Name,
             HabitContext::Object => Wanted::Word(Word::This),
             HabitContext::Type => Wanted::Symbol(Symbol::Ampersand),
@@ -354,6 +360,7 @@ impl HabitContext {
     fn unwanted(self) -> Option<Wanted> {
         match self {
             HabitContext::Set => Some(Wanted::Word(Word::Emit)),
+            HabitContext::Setting => Some(Wanted::Spelled(b"round")),
             HabitContext::Line => Some(Wanted::Word(Word::Wire)),
             HabitContext::Literal | HabitContext::Open => Some(Wanted::Symbol(Symbol::Not)),
             HabitContext::Comma | HabitContext::Part | HabitContext::Assign => {

@@ -39,10 +39,7 @@ impl<'a> TokenizedText<'a> {
 
     /// Whether it is a name.
     pub fn is_name(self, number: usize) -> bool {
-        match self.token(number) {
-            Some(Token::Name(_)) => true,
-            _ => false,
-        }
+        matches!(self.token(number), Some(Token::Name(_)))
     }
 
     /// The byte at which it begins, or at which the last one ends.
@@ -122,11 +119,8 @@ impl fmt::Display for ShownTokens<'_> {
 
 /// Whether a statement, a declaration or a header ends with the token.
 fn ends(token: &Token) -> bool {
-    match token {
-        Token::Symbol(symbol) => match symbol {
-            Symbol::Semicolon | Symbol::OpenBrace | Symbol::CloseBrace => true,
-            _ => false,
-        },
-        _ => false,
-    }
+    matches!(
+        token,
+        Token::Symbol(Symbol::Semicolon | Symbol::OpenBrace | Symbol::CloseBrace)
+    )
 }

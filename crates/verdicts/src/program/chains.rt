@@ -1,6 +1,6 @@
 //! Chains of direct calls that are longer than any bound.
 
-use crate::program::places::Located;
+use crate::program::located::Located;
 use crate::program::search::ProgramSearch;
 use crate::program::sentences::{MAY_BE_FALSE, doubted_help};
 use crate::program::walks::{marks, set_mark};

@@ -1,6 +1,6 @@
 //! Cycles: members that may lead to one another without end.
 
-use crate::program::places::Located;
+use crate::program::located::Located;
 use crate::program::resting::obstacles;
 use crate::program::search::ProgramSearch;
 use crate::program::sentences::{BINDINGS_MAY_BE_FALSE, MAY_BE_FALSE, doubted_help, push_names};

@@ -1,7 +1,7 @@
 //! Slots and natives that may lead to the deletion of an object of their own class, and signals that may lead to that of their
 //! sender: told by what deletes.
 
-use crate::program::places::{DeclaredMember, Located};
+use crate::program::located::Located;
 use crate::program::search::ProgramSearch;
 use crate::program::sentences::{DELETION_MAY_BE_FALSE, doubted_help};
 use crate::program::walks::{Hops, marks};
@@ -49,7 +49,7 @@ impl DeletingMembers {
 pub fn deletions(search: ProgramSearch<'_>) -> Result<Vec<Deletion>, AllocError> {
     let meta = search.located.source.meta;
     let mut found = Vec::new(search.graph.alloc);
-    let mut told: Vec<DeclaredMember> = Vec::new(search.graph.alloc);
+    let mut told: Vec<Node> = Vec::new(search.graph.alloc);
     let deleted = deleted_nodes(search)?;
     for class in 0..meta.classes().len() {
         let targets = deleted_with(search, deleted.as_slice(), class)?;
@@ -98,7 +98,7 @@ fn add_member(
     ways: &Hops,
     class: usize,
     method: usize,
-    told: &mut Vec<DeclaredMember>,
+    told: &mut Vec<Node>,
     found: &mut Vec<Deletion>,
 ) -> Result<(), AllocError> {
     let node = Node {
@@ -108,7 +108,7 @@ fn add_member(
     let Some(number) = search.scan.number(node) else {
         return Ok(());
     };
-    let declared = search.located.declared_method(class, method);
+    let declared = search.located.source.declared(node);
     if ways.at(number).is_none() || told.contains(&declared) {
         return Ok(());
     }

@@ -88,19 +88,16 @@ pub fn add_dropped_calls(
     Ok(())
 }
 
-/// What tells the statement of the node from others: the class and the place of the slot that has it, where that is declared, and
-/// its number. `deleteLater` is each class's own.
+/// What tells the statement of the node from others: the class that declares the slot which has it, the slot's number, and its
+/// own. `deleteLater` is each class's own.
 fn key(search: ProgramSearch<'_>, from: Node, statement: usize) -> (usize, usize, usize) {
     let Member::Method(method) = from.member else {
         return (from.class, 0, statement);
     };
-    let declared = search.located.declared_method(from.class, method);
-    let class = if declared.class == QOBJECT {
-        from.class
-    } else {
-        declared.class
-    };
-    (class, declared.own, statement)
+    match search.located.source.declared(from).class {
+        QOBJECT => (from.class, method, statement),
+        declaring => (declaring, method, statement),
+    }
 }
 
 /// What leads to the destruction of this number: each statement that deletes such objects, at once or later. What every object has

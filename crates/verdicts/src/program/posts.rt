@@ -1,6 +1,6 @@
 //! What members lead to later: calls that queued wires post, and deletions that `later` schedules.
 
-use crate::program::places::Located;
+use crate::program::located::Located;
 use crate::program::search::ProgramSearch;
 use crate::program::walks::DirectedGraph;
 use basic_types::Kind;
@@ -109,27 +109,40 @@ impl PostGraph {
 
     /// Adds the deletions that the slot schedules.
     fn add_slot(&mut self, making: &Making<'_>, slot: OwnSlot<'_>) -> Result<(), AllocError> {
-        let mut laters = Vec::new(self.graph.alloc);
-        let mut number = 0usize;
-        gather_laters(slot, slot.body, &mut number, &mut laters)?;
-        for later in laters {
-            let Later { statement, deleted } = later;
-            match deleted {
-                Deleted::Own => {
-                    for class in making.family(slot.class) {
-                        let post = self.add(Post::Later(statement))?;
-                        self.join_slot(making, *class, slot.method, post)?;
-                        self.join_destruction(making, *class, post)?;
-                    }
+        let statements = slot.statements(self.graph.alloc)?;
+        for (number, statement) in statements.iter().enumerate() {
+            if let Statement::Later(path) = *statement
+                && let Some(deleted) = deleted_at(slot, path)
+            {
+                self.add_later(making, slot, Post::Later(number), deleted)?;
+            }
+        }
+        Ok(())
+    }
+
+    /// Adds the deletion that the statement schedules.
+    fn add_later(
+        &mut self,
+        making: &Making<'_>,
+        slot: OwnSlot<'_>,
+        later: Post,
+        deleted: Deleted,
+    ) -> Result<(), AllocError> {
+        match deleted {
+            Deleted::Own => {
+                for class in making.family(slot.class) {
+                    let post = self.add(later)?;
+                    self.join_slot(making, *class, slot.method, post)?;
+                    self.join_destruction(making, *class, post)?;
                 }
-                Deleted::Below(parent) => {
-                    let post = self.add(Post::Later(statement))?;
-                    for class in making.family(slot.class) {
-                        self.join_slot(making, *class, slot.method, post)?;
-                    }
-                    for class in making.family(parent) {
-                        self.join_destruction(making, *class, post)?;
-                    }
+            }
+            Deleted::Below(parent) => {
+                let post = self.add(later)?;
+                for class in making.family(slot.class) {
+                    self.join_slot(making, *class, slot.method, post)?;
+                }
+                for class in making.family(parent) {
+                    self.join_destruction(making, *class, post)?;
                 }
             }
         }
@@ -235,57 +248,6 @@ enum Deleted {
     Own,
     /// One of this class or of one below it.
     Below(usize),
-}
-
-/// A statement `later`.
-#[derive(Clone, Copy, Debug, PartialEq, Eq)]
-struct Later {
-    /// Its number in the body.
-    statement: usize,
-    deleted: Deleted,
-}
-
-/// Adds each `later` of the statements; `number` counts these, and those that are in them.
-#[cycle(laters)]
-fn gather_laters(
-    slot: OwnSlot<'_>,
-    body: &[Statement],
-    number: &mut usize,
-    laters: &mut Vec<Later>,
-) -> Result<(), AllocError> {
-    for statement in body {
-        gather_later(slot, statement, number, laters)?;
-    }
-    Ok(())
-}
-
-/// Adds the statement if it is a `later`, and those that are in it.
-#[cycle(laters)]
-fn gather_later(
-    slot: OwnSlot<'_>,
-    statement: &Statement,
-    number: &mut usize,
-    laters: &mut Vec<Later>,
-) -> Result<(), AllocError> {
-    let own = *number;
-    *number = own.saturating_add(1);
-    match statement {
-        Statement::Later(path) => {
-            if let Some(deleted) = deleted_at(slot, path) {
-                laters.push(Later {
-                    statement: own,
-                    deleted,
-                })?;
-            }
-            Ok(())
-        }
-        Statement::If(_, chosen, other) => {
-            gather_laters(slot, chosen.as_slice(), number, laters)?;
-            gather_laters(slot, other.as_slice(), number, laters)
-        }
-        Statement::Group(sets) => gather_laters(slot, sets.as_slice(), number, laters),
-        _ => Ok(()),
-    }
 }
 
 /// Which objects the path may lead to.

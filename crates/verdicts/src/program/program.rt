@@ -3,7 +3,7 @@
 use crate::program::chains::gather_chain;
 use crate::program::cycles::gather_cycles;
 use crate::program::deletions::{Deletion, deletions, gather_deletions};
-use crate::program::places::Located;
+use crate::program::located::Located;
 use crate::program::remarks::remarks;
 use crate::program::resting::add_settling_cycles;
 use crate::program::search::{ProgramGraph, ProgramSearch};

@@ -2,11 +2,10 @@
 
 use crate::program::deletions::{Deletion, add_lost_senders};
 use crate::program::dropped::add_dropped_calls;
-use crate::program::places::Located;
+use crate::program::located::Located;
 use crate::program::posts::PostGraph;
 use crate::program::search::ProgramSearch;
 use crate::program::turns::{add_queued_cycles, add_re_entries};
-use diagnostics::TextPlace;
 use findings::{Finding, JudgedText, Rule};
 use program_flaws::{Warning, warning_text, warnings};
 use std::alloc::AllocError;
@@ -40,7 +39,7 @@ fn warning_finding(located: Located<'_>, warning: &Warning) -> Result<Finding, A
         message: warning_text(alloc, located.source.meta, warning)?,
         help: Some(String::from_str(alloc, rule.help())?),
         text: JudgedText::Program,
-        place: place_of(located, warning),
+        place: warning.place(located.source, located.places),
         chain: Vec::new(alloc),
     })
 }
@@ -53,21 +52,5 @@ fn rule_of(warning: &Warning) -> Rule {
         Warning::Unwired { .. } => Rule::ConnectUncovered,
         Warning::NotifiedTwice { .. } => Rule::NotifyEmittedTwice,
         Warning::LostSender { .. } => Rule::SenderDeleted,
-    }
-}
-
-/// Where it is in the text.
-fn place_of(located: Located<'_>, warning: &Warning) -> Option<TextPlace> {
-    match warning {
-        Warning::Empty => Some(TextPlace { line: 1, column: 1 }),
-        Warning::IdleWire { wire, .. } => located.places.wire(*wire),
-        Warning::Unwired { connect, .. } => located.places.connect(*connect),
-        Warning::NotifiedTwice { emit, .. } => located.places.emit(*emit),
-        Warning::LostSender { class, signal } => {
-            let declared = located.declared_method(*class, *signal);
-            located
-                .places
-                .method(declared.class.checked_sub(1)?, declared.own)
-        }
     }
 }

@@ -1,6 +1,6 @@
 //! A program whose edges are searched.
 
-use crate::program::places::Located;
+use crate::program::located::Located;
 use crate::program::walks::{DirectedGraph, components};
 use effect_scan::{Node, Scan};
 use std::alloc::AllocError;

@@ -1,6 +1,6 @@
 //! Wires that don't fit, and literals, bodies and bindings that aren't typed.
 
-use crate::program::places::Located;
+use crate::program::located::Located;
 use crate::program::sentences::MessageWithHelp;
 use basic_types::fits;
 use diagnostics::TextPlace;
