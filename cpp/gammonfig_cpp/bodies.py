@@ -6,6 +6,7 @@ from typing import Callable
 from .comparing import Comparing
 from .conditional import Conditional
 from .context import Context
+from .implicit import Implicit
 from .libclang import (FUNCTIONS, NAMES, RECORDS, TEMPLATES, VARIABLES, Cursor, K, T, bare, cindex, expressions, is_of_closure, is_pattern,
                        quick, strip)
 from .model import Function, Value
@@ -21,6 +22,7 @@ class Bodies:
         self.context = context
         self.comparing = Comparing(context)
         self.conditional = Conditional(context, self)
+        self.implicit = Implicit(context)
         self.locals: list[tuple[str, Cursor, str]] = []
         self.released: set[str] = set()
         # The instances of generic lambdas.
@@ -131,6 +133,8 @@ class Bodies:
         with self.context.within(function), self.comparing.fresh():
             self.context.changed = self.context.values.changed_parameters(kids[-1]) if kids and function.parameters else set()
             self._owned_parameters(kids)
+            if function.kind == 'constructor':
+                self.implicit.run(cursor, kids)
             at = 0
             while at < len(kids):
                 kid = kids[at]

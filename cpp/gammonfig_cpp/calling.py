@@ -5,7 +5,9 @@ from typing import Collection, Iterator, Sequence
 
 from .deaths import Deaths
 from .editors import Editors
+from .grouping import Groups
 from .inner import MODEL
+from .insides import Insides
 from .items import Items
 from .model import Function, Parameter, Statement, Term, Value
 from .objects import FREE, Element
@@ -28,7 +30,7 @@ class Calling:
         self._present: dict[str, bool] = {}
         self.deaths = Deaths(program, self)
         self.replacing = Replacing(program, qt, self)
-        self.editors, self.items, self.sources = Editors(self), Items(self.objects), Sources(self)
+        self.editors, self.items, self.sources, self.insides, self.groups = Editors(self), Items(self.objects), Sources(self), Insides(self), Groups(self)
         # The classes to whose `destroyed` something is connected; complete once all wires are there.
         self.watched = Related(self.objects, {Element('class', self.objects.cls(e)) for c in self.whole.connects
                                               if c.signal.name.split('(')[0] == 'destroyed'
@@ -128,12 +130,12 @@ class Calling:
         member = Member(key, element, slot, 'slot', shown, None, parameters, library=True)
         program.add(member)
         if found is not None:
-            member.steps = self._library_steps(element, name, parameters, found[1], found[2], roles)
+            member.steps = self._library_steps(key, element, parameters, found[1], found[2], roles)
         return key
 
-    def _library_steps(self, element: Element, name: str, parameters: list[Parameter], entry: Entry, written: list[Written],
+    def _library_steps(self, key: Key, element: Element, parameters: list[Parameter], entry: Entry, written: list[Written],
                        lists: list[Element]) -> list[Step]:
-        cls, steps, told, names = self.objects.cls(element), [], set(), set()
+        cls, name, steps, told, names = self.objects.cls(element), str(key[3]), [], set(), set()
         for one in written:
             usr = self.whole.signal(cls, one.notify)
             # A property that a class declares again, with another signal, is set once.
@@ -146,10 +148,12 @@ class Calling:
             if signal not in told:
                 steps += self._emit(element, signal, lists)
         for signal in entry.inside:
-            steps += self._inside(element, signal)
+            steps += self.insides.steps(element, signal, lists)
         for function in entry.calls:
+            # One overload may call another, which is virtual.
             for target_element, target in self.callbacks(element, function, lists):
-                steps.append(Step('call', target, target_element, words=f'{name} calls {function}'))
+                if target != key:
+                    steps.append(Step('call', target, target_element, words=f'{name} calls {function}'))
         for posted in entry.posts:
             steps += self._posts(element, posted)
         for deleted in entry.deletes if not entry.owns or not self.replacing.is_first(element, name) else ():
@@ -193,53 +197,23 @@ class Calling:
             fit = usr is not None and whole.name(whole.class_of(usr)) != 'QObject'
             return [Step('emit', program.signal(usr))] if fit and usr is not None else []
         class_name, signal = name.split('::')
+        fellows = self.groups.fellows(element, class_name)
+        if fellows is not None:
+            heard = [(it, whole.signal(self.objects.cls(it), signal)) for it in fellows]
+            return [Step('call', program.emitter(usr), it) for it, usr in heard if usr is not None]
         steps = []
         for key in whole.by_name.get(class_name, ()):
             found, models = whole.signal(key, signal), self.sources.of(element) if whole.is_named(key, MODEL) else []
             fitting = [it for it in lists + models if whole.is_a(self.objects.cls(it), key)]
             if found is not None and fitting:
                 steps += [Step('call', program.emitter(found), program.role(it)) for it in fitting]
-            elif found is not None and not models and not whole.is_inside(key) and self.is_present(key):
+            elif found is not None and not models and not whole.is_inside(key) and (self.is_present(key) or self._is_model_heard(key)):
                 steps.append(Step('call', program.emitter(found), program.of_class(key)))
         return steps
 
-    def _inside(self, element: Element, name: str) -> list[Step]:
-        """A signal of an object in this one: of those that it owns, and of any of the class where one is connected of which it isn't
-        known where it is made."""
-        whole, program = self.whole, self.program
-        if '::' not in name:
-            return []
-        class_name, signal = name.split('::')
-        steps = []
-        for key in whole.by_name.get(class_name, ()):
-            usr = whole.signal(key, signal)
-            inner = [o for o in sorted(self.owned(element)) if whole.is_a(self.objects.cls(o), key)]
-            if self.is_connected(Element('class', key)):
-                inner.append(Element('class', key))
-            inner += self._inner(element, key)
-            steps += [Step('call', program.emitter(usr), program.role(o)) for o in inner if usr is not None]
-        return list({s.same(): s for s in [*steps, *self._wired(element, class_name, signal)]}.values())
-
-    def _inner(self, element: Element, cls: str) -> list[Element]:
-        """The objects of a class that Qt made in one, where somebody is connected to them; any, where it isn't known which one it is."""
-        inner, kind = self.objects.inner, self.objects.inner.kind(element)
-        if kind is None or kind.cls != self.whole.name(cls):
-            return []
-        heard, own = [it for it, _ in inner.pairs(kind.cls) if self.is_connected(it)], inner.of(element)
-        return [it for it in heard if it in own] if own is not None else [Element('class', cls)] if heard else []
-
-    def _wired(self, element: Element, class_name: str, signal: str) -> list[Step]:
-        """What Qt itself connects to a signal of an object that it made in this one, as the selection of a view to functions of the view, its
-        model, its delegate and its editor."""
-        cls, steps = self.objects.cls(element), list[Step]()
-        wires = [wire for wire in self.qt.table.wires if (wire.sender, wire.signal, wire.by) == (class_name, signal, '')]
-        own = [self.whole.is_named(cls, wire.receiver) for wire in wires]
-        for wire, is_own in zip(wires, own) if any(own) else ():
-            others = self.sources.in_view(element, wire.receiver) if self.objects.inner.of(element) and not is_own else None
-            found = self.callbacks(element, wire.member if is_own else f'{wire.receiver}::{wire.member}') if others is None else \
-                [target for other in others for target in self.callbacks(other, wire.member)]
-            steps += [Step('call', key, on, words=f'Qt connects {signal} to {wire.member}') for on, key in found]
-        return steps
+    def _is_model_heard(self, cls: str) -> bool:
+        """Whether somebody is connected to a model of which nothing is known, and which may be one of a class that Qt made, as in a box."""
+        return any(self.is_connected(Element('class', above)) for above in self.whole.above(cls) if self.whole.is_named(above, MODEL))
 
     def _deletes(self, element: Element, name: str) -> list[Step]:
         """What a function of Qt deletes: the object itself, or what it owns of a class."""
@@ -333,7 +307,8 @@ class Calling:
         if '::' in name:
             class_name, name = name.split('::')
             classes = whole.by_name.get(class_name, ()) if self.items.may_reach(element, class_name) else ()
-            return [t for key in classes for t in self.callbacks(Element('class', key), name)]
+            of_items = self.items.lists_of(element, class_name, lists)
+            return [t for key in classes for t in self.callbacks(Element('class', key), name, of_items)]
         asked = (element, name, *lists)
         known = self._callbacks.get(asked)
         if known is None:

@@ -87,7 +87,7 @@ class Calls:
             self.context.note('undecided call', call, words)
         self.rest(call)
 
-    def _to_function(self, call: Cursor, called: Cursor, on: Value, given: list[Cursor]) -> Statement:
+    def to_function(self, call: Cursor, called: Cursor, on: Value, given: list[Cursor]) -> Statement:
         """A call of a function whose sources are the application's."""
         context = self.context
         statement = context.add('call', call, on)
@@ -133,7 +133,7 @@ class Calls:
     def _free(self, call: Cursor) -> None:
         called, given = call.referenced, list(call.get_arguments())
         if self.context.is_inside(called):
-            self._to_function(call, called, Value('free'), given)
+            self.to_function(call, called, Value('free'), given)
             self.functors.to_own(call, called, given)
         elif called.spelling == 'qDeleteAll' and given:
             cls = self.context.classes.of(given[0].type)
@@ -168,7 +168,7 @@ class Calls:
         elif self.special.is_special(call, parent, name):
             self.special.call(call, parent, name, self.objects(call, on), given)
         elif inside:
-            self._to_function(call, called, self.objects(call, on), given)
+            self.to_function(call, called, self.objects(call, on), given)
             self._told(call, called, given)
             self.functors.to_own(call, called, given)
             self.rest(call)
@@ -186,9 +186,12 @@ class Calls:
         return function.statements[-1] if function is not None and function.statements else None
 
     def _block(self, statement: Statement | None) -> None:
-        """Tells of what an object does whose signals are blocked: that isn't believed, but it is a condition."""
+        """Tells of what an object does whose signals are blocked, or an item that it gave: that isn't believed, but it is a condition."""
+        if statement is None or not self.context.blocked:
+            return
+        given = self.parting.last(statement.on)
         for value, words in self.context.blocked:
-            if statement is not None and value == statement.on:
+            if value == statement.on or given.kind == 'class' and value in given.parts:
                 statement.conditions += (Condition('blocked by', words, statement.place.line),)
 
     def _call_operator(self, call: Cursor, on: Cursor | None, inside: bool, parent: str) -> bool:
@@ -230,8 +233,9 @@ class Calls:
             self.special.owning(call, called.semantic_parent.spelling, called.spelling, value, given)
         if called.spelling.startswith('operator'):
             self.keeping.keep(on, given)
-        elif not self.context.connects.by_library(call, called.semantic_parent.spelling, called.spelling, value, given):
-            self.functors.to_library(call, called.spelling, given)
+        elif self.context.connects.by_library(call, called.semantic_parent.spelling, called.spelling, value, given) \
+                or self.functors.to_library(call, called.spelling, given):
+            statement.how = 'later'
         self.rest(call, callables=False)
 
     # Arguments
@@ -301,10 +305,10 @@ class Calls:
             self.holders.note_deleter(list(call.get_arguments()))
             return
         cls, given = context.classes.note(parent), list(call.get_arguments())
-        called = self._declared_constructor(called)
+        called = self.declared_constructor(called)
         inside = context.is_inside(called)
         if inside:
-            self._to_function(call, called, on, given).virtual = False
+            self.to_function(call, called, on, given).virtual = False
             self.functors.to_own(call, called, given)
             self.note_construction(context.function_key(called), on, given)
         self._own_by_parent(call, called, on, given)
@@ -335,7 +339,7 @@ class Calls:
         for inner in made.get_children() if made.kind == K.CXX_NEW_EXPR else ():
             call = strip(inner)
             if call.kind == K.CALL_EXPR and call.referenced is not None and call.referenced.kind == K.CONSTRUCTOR:
-                called, given, on = self._declared_constructor(call.referenced), list(call.get_arguments()), self.context.values.made(made)
+                called, given, on = self.declared_constructor(call.referenced), list(call.get_arguments()), self.context.values.made(made)
                 if called.semantic_parent.kind in RECORDS and self.context.classes.of(made.type):
                     self._own_by_parent(call, called, on, given)
                 if self.context.is_inside(called):
@@ -343,7 +347,7 @@ class Calls:
                     self.note_construction(self.context.function_key(called), on, given)
 
     @staticmethod
-    def _declared_constructor(called: Cursor) -> Cursor:
+    def declared_constructor(called: Cursor) -> Cursor:
         """The constructor of a base that a class takes over by `using Base::Base`."""
         for _ in range(4):
             parent = called.semantic_parent

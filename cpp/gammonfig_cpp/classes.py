@@ -12,6 +12,8 @@ SMART = {'QPointer', 'QScopedPointer', 'QSharedPointer', 'QWeakPointer', 'unique
 OWNING = SMART - {'QPointer', 'QWeakPointer', 'weak_ptr', 'QPropertyAlias', 'reference_wrapper'}
 # Containers of these own what they hold.
 OF_OWNERS = re.compile(r'(unique_ptr|shared_ptr|QSharedPointer|QScopedPointer)<')
+# Items of scenes and views.
+ITEM = re.compile(r'Q(Graphics|Tree|List|Table|Standard)\w*Item$')
 CONTAINERS = {'QList', 'QVector', 'QMap', 'QHash', 'QSet', 'QMultiMap', 'QMultiHash', 'QStack', 'QQueue', 'vector', 'list', 'map', 'set',
               'deque', 'unordered_map', 'unordered_set', 'multimap', 'pair', 'array', 'optional', 'QPair', 'QVarLengthArray', 'QCache',
               'initializer_list', 'tuple', 'variant'}
@@ -27,8 +29,8 @@ class Classes:
         self.found = context.facts.classes
         # Instances of templates of the application: nothing of them stands in the text.
         self.instances: list[Cursor] = []
-        # By the class of an instance, or of a class in one, what it is an instance of.
-        self.patterns: list[tuple[str, Cursor]] = []
+        # The class of an instance, or of a class in one, the instance, and what it is one of.
+        self.patterns: list[tuple[str, Cursor, Cursor]] = []
         self._types: dict[str, tuple[str, bool]] = {}
 
     # Types
@@ -82,8 +84,10 @@ class Classes:
         return [a for a in arguments if a.kind == T.POINTER or (a.kind == T.RECORD and a.get_declaration().spelling in held)]
 
     def is_value(self, cxx_type: CxxType) -> bool:
-        """Whether a variable of the type is an object itself, not a pointer, a holder or an iterator."""
+        """Whether a variable of the type is an object itself, or an array of such, not a pointer, a holder or an iterator."""
         kind = cxx_type.get_canonical()
+        while kind.kind in (T.CONSTANTARRAY, T.INCOMPLETEARRAY):
+            kind = kind.element_type.get_canonical()
         name = kind.get_declaration().spelling if kind.kind == T.RECORD else ''
         return bool(kind.kind == T.RECORD and name not in SMART | CONTAINERS and 'terator' not in name)
 
@@ -116,7 +120,7 @@ class Classes:
 
     def is_handed_over(self, key: str) -> bool:
         """Whether objects of a class have owners: those of QObject, and items of scenes and views."""
-        return self.is_object(key) or bool(re.match(r'Q(Graphics|Tree|List|Table|Standard)\w*Item$', self.found[key].name))
+        return self.is_object(key) or bool(ITEM.match(self.found[key].name))
 
     def has_destructor(self, key: str) -> bool:
         """Whether a class of the application has a destructor of its own, which may do something."""
@@ -139,7 +143,7 @@ class Classes:
         template = template_of(cursor) if '>#' in key else None
         pattern = (template.get_definition() or template) if template is not None else None
         if pattern is not None and cls.inside and self.context.place(pattern, 0) == self.context.place(cursor, 0):
-            self.patterns.append((key, pattern))
+            self.patterns.append((key, cursor, pattern))
         if template is not None and template.kind == K.CLASS_TEMPLATE and not self._has_bases(cursor):
             self._instance(cls, cursor, template.get_definition() or template)
         elif definition is not None:

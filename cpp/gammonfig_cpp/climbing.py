@@ -17,13 +17,13 @@ class Climbing:
 
     def sets(self) -> list[list[str]]:
         """The members of each set in which all circles go up, by their names."""
-        found = components({n: list(to) for n, to in self.graph.edges.items()})
-        return [sorted(self.graph.name(n) for n in members) for members in found if self._climbs(members)]
+        return [sorted(self.graph.name(n) for n in members) for members in self.graph.components() if self._climbs(members)]
 
     def _climbs(self, members: set[Node]) -> bool:
+        for node in members:
+            if any(why.way == 'other' and not members.isdisjoint(to.nodes) for why, to in self.graph.outs[node]):
+                return False
         inner = {n: {m: why.way for m, why in self.graph.edges[n].items() if m in members} for n in members}
-        if any(way == 'other' for to in inner.values() for way in to.values()):
-            return False
         return not components({n: [m for m, way in to.items() if way == 'same'] for n, to in inner.items()})
 
 

@@ -89,9 +89,18 @@ class Conditional:
         for part in parts:
             if part is body:
                 with self.context.under(condition), self.bodies.comparing.block():
-                    self.bodies.walk(part)
+                    # Of a loop that is a macro, as Q_FOREACH, the branch in it is none of the application's.
+                    for inner in part.get_children() if self._is_of_macro(cursor, part) else [part]:
+                        self.bodies.walk(inner)
             elif part.kind.is_expression() or part.kind.is_statement() or (part.kind == K.VAR_DECL and cursor.kind != K.CXX_FOR_RANGE_STMT):
                 self.bodies.walk(part)
+
+    @staticmethod
+    def _is_of_macro(loop: Cursor, body: Cursor) -> bool:
+        """Whether a loop and the branch that is its body are one macro: they begin at one place."""
+        start, inner = loop.extent.start, body.extent.start
+        return bool(body.kind == K.IF_STMT and start.offset == inner.offset and start.file is not None and inner.file is not None
+                    and start.file.name == inner.file.name)
 
     def _head(self, cursor: Cursor, parts: list[Cursor], body: Cursor) -> str:
         if cursor.kind == K.DO_STMT:
@@ -99,7 +108,8 @@ class Conditional:
         start, end = cursor.extent.start, body.extent.start
         if start.file is None or end.file is None or start.file.name != end.file.name:
             return 'a loop'
-        words = up_to_bracket(' '.join(self.context.bytes_between(start.file.name, start.offset, end.offset).split()))
+        last = cursor.extent.end if self._is_of_macro(cursor, body) else end
+        words = up_to_bracket(' '.join(self.context.bytes_between(start.file.name, start.offset, last.offset).split()))
         return words if len(words) <= 100 else words[:98].rstrip() + ' ..'
 
     def switch(self, cursor: Cursor) -> None:

@@ -63,8 +63,10 @@ class Connects:
                                 context.function.key if context.function else '', 'connect', self._is_same(given[0], given[2])))
 
     def _is_same(self, one: Cursor, other: Cursor) -> bool:
-        """Whether two arguments are one variable that holds one object."""
+        """Whether two arguments are one variable that holds one object, or both are `this`."""
         first, second = strip(one), strip(other)
+        if first.kind == second.kind == K.CXX_THIS_EXPR:
+            return True
         if first.kind != K.DECL_REF_EXPR or second.kind != K.DECL_REF_EXPR or first.referenced is None:
             return False
         return bool(first.referenced == second.referenced and first.type.get_canonical().kind == T.POINTER)

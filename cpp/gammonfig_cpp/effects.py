@@ -137,7 +137,7 @@ class Effects:
         if found is not None and found[1].modal and function.name != 'main' and self._runs_a_loop(statement, function):
             self.program.modal.setdefault(self.program.function(function.key), statement.place)
         name = f'{self.whole.name(statement.cls)}::{statement.name}'
-        if not known and not statement.constant and statement.name not in KNOWN:
+        if not known and not statement.constant and statement.name not in KNOWN and statement.how != 'later':
             self.program.silent[name] += 1
         return steps
 

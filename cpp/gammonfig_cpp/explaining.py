@@ -33,8 +33,8 @@ class Explaining:
 
     def _role(self, role: Element) -> list[str]:
         name = self.names.classes[role]
-        if role == FREE:
-            return [f'{name}: functions that belong to no object']
+        if role.kind == FREE.kind:
+            return [f'{name}: functions {f"of {self.places.relative(role.key)} " if role != FREE else ""}that belong to no object']
         cls = self.whole.classes[self.objects.cls(role)]
         lines = [f'{name}: objects of {cls.qualified}, which {self._at(cls.place)} declares']
         sites = [s for s, r in self.objects.role_of.items() if r == role.key] if role.kind == 'site' else \

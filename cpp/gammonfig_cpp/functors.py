@@ -7,15 +7,17 @@ from .model import NONE, Named, Value
 
 # Functions that take a functor and call it later, from an event loop or in another thread.
 DEFERRED = {'singleShot', 'run', 'create', 'mapped', 'map', 'filtered', 'filter', 'mappedReduced', 'filteredReduced', 'then', 'onFailed',
-            'onCanceled', 'callOnTimeout', 'start', 'tryStart', 'addTransition', 'defineRole', 'task', 'postToMain', 'runOnThread'}
+            'onCanceled', 'callOnTimeout', 'start', 'tryStart', 'startOnReservedThread', 'addTransition', 'defineRole', 'task', 'postToMain',
+            'runOnThread'}
 
 
 class Functors:
     def __init__(self, context: Context) -> None:
         self.context = context
 
-    def to_library(self, call: Cursor, name: str, given: list[Cursor]) -> None:
-        """What is handed to a function of a library: called at once as far as is known, unless it is known to be later."""
+    def to_library(self, call: Cursor, name: str, given: list[Cursor]) -> bool:
+        """What is handed to a function of a library: called at once as far as is known, unless it is known to be later; whether it is."""
+        is_later = False
         for argument in given:
             named, on = self._handed(argument, given)
             if named is None or named.kind == 'method' and on == NONE:
@@ -23,6 +25,7 @@ class Functors:
             if name in DEFERRED:
                 statement = self.context.add('post', call, on)
                 statement.named, statement.name = named, name
+                is_later = True
             elif named.kind == 'lambda':
                 self.context.calls.inline(call, named.key)
             elif named.kind != 'method':
@@ -32,6 +35,7 @@ class Functors:
                 continue
             if name not in DEFERRED:
                 self.context.note('functor', call, f'given to {name}, taken to be called at once: {self.context.text(call, 50)}')
+        return is_later
 
     def _handed(self, argument: Cursor, given: list[Cursor]) -> tuple[Named | None, Value]:
         """The function that an argument names, and the object that a member function is to be called on."""

@@ -2,13 +2,17 @@
 from __future__ import annotations
 
 from collections import defaultdict
+from collections.abc import Collection, Iterator, Mapping
 from copy import copy
 from dataclasses import dataclass, replace
+from functools import cached_property
+from typing import Union
 
+from .graphs import parts
 from .model import Condition, Place
 from .naming import Naming
 from .objects import Element
-from .program import WAYS, Key, Program
+from .program import WAYS, Key, Program, Step
 
 Node = tuple[Element, Key]
 
@@ -23,63 +27,151 @@ class Why:
     is_wire: bool = False
 
 
+class Targets:
+    """A member as all objects of an element have it: one object for all statements and connections that lead there. Each of them has an
+    edge to each of these nodes, and where many objects do the same these would be millions."""
+    __slots__ = ('nodes',)
+
+    def __init__(self, nodes: tuple[Node, ...]) -> None:
+        self.nodes = nodes
+
+
+Outs = dict[Node, list[tuple[Why, Targets]]]
+# A node, or several to which others lead together.
+Link = Union[Node, Targets]
+
+
+class Edges(Mapping[Node, dict[Node, Why]]):
+    """By a node the nodes that it leads to: of several reasons the first, by the widest of their ways."""
+
+    def __init__(self, outs: Outs) -> None:
+        self.outs = outs
+
+    def __getitem__(self, node: Node) -> dict[Node, Why]:
+        found: dict[Node, Why] = {}
+        for why, targets in self.outs[node]:
+            for to in targets.nodes:
+                known = found.setdefault(to, why)
+                if WAYS.index(why.way) > WAYS.index(known.way):
+                    found[to] = replace(known, way=why.way)
+        return found
+
+    def __contains__(self, node: object) -> bool:
+        return node in self.outs
+
+    def __iter__(self) -> Iterator[Node]:
+        return iter(self.outs)
+
+    def __len__(self) -> int:
+        return len(self.outs)
+
+
 class Graph:
     """A member as the objects of one class have it is a node. Queued wires are edges where that is asked for."""
 
     def __init__(self, program: Program, names: Naming, queued: bool = False) -> None:
         self.program, self.names, self.queued = program, names, queued
-        self.at: dict[Element, list[Key]] = defaultdict(list)
+        at: dict[Element, list[Key]] = defaultdict(list)
         for key, member in sorted(program.members.items(), key=lambda m: m[0]):
-            for role in [member.owner, *self.names.below[member.owner]]:
-                self.at[role].append(key)
-        self.edges: dict[Node, dict[Node, Why]] = {(r, k): {} for r, keys in self.at.items() for k in keys}
-        self.dying: dict[Node, set[Element]] = defaultdict(set)
-        for role, key in self.edges:
-            self._member(role, key)
+            for role in self.roles(member.owner):
+                at[role].append(key)
+        self.outs: Outs = {(r, k): [] for r, keys in at.items() for k in keys}
+        self.edges = Edges(self.outs)
+        self.dying: dict[Node, frozenset[Element]] = {}
+        self._targets: dict[Node, Targets | None] = {}
+        self._single: dict[Node, Targets | None] = {}
+        for key in program.members:
+            self._member(key)
         self._wires()
 
     def roles(self, role: Element) -> list[Element]:
         return [role, *self.names.below[role]]
 
-    def _add(self, node: Node, to: Node, why: Why) -> None:
-        if to in self.edges:
-            known = self.edges[node].setdefault(to, why)
-            if WAYS.index(why.way) > WAYS.index(known.way):
-                self.edges[node][to] = replace(known, way=why.way)
+    def _of_all(self, role: Element, key: Key) -> Targets | None:
+        """A member as each object of an element has it; none where no node is one."""
+        at = (role, key)
+        if at not in self._targets:
+            nodes = tuple((r, key) for r in self.roles(role) if (r, key) in self.outs)
+            self._targets[at] = Targets(nodes) if nodes else None
+        return self._targets[at]
 
-    def _member(self, role: Element, key: Key) -> None:
+    def _of_one(self, role: Element, key: Key) -> Targets | None:
+        at = (role, key)
+        if at not in self._single:
+            self._single[at] = Targets((at,)) if at in self.outs else None
+        return self._single[at]
+
+    def _add(self, node: Node, why: Why, targets: Targets | None) -> None:
+        if targets is not None:
+            self.outs[node].append((why, targets))
+
+    def _member(self, key: Key) -> None:
         member = self.program.members[key]
-        if member.notify is not None:
-            self._add((role, key), (role, member.notify), Why(member.place, way='same'))
+        roles = self.roles(member.owner)
+        for role in roles if member.notify is not None else ():
+            self._add((role, key), Why(member.place, way='same'), self._of_one(role, member.notify or key))
         for step in member.steps:
-            on = self.roles(step.on) if step.on is not None else [role]
             if step.kind == 'delete':
-                self.dying[(role, key)] |= set(on)
-                continue
-            owner = self.program.members[step.member].owner
-            fit = [r for r in on if (r, step.member) in self.edges] or self.roles(owner)
-            for target in fit:
-                self._add((role, key), (target, step.member), Why(step.place, step.conditions, way='other' if step.on or key in self.program.folded else 'same'))
+                self._death(key, roles, step)
+            else:
+                self._step(key, roles, step)
+
+    def _death(self, key: Key, roles: list[Element], step: Step) -> None:
+        all_of = frozenset(self.roles(step.on)) if step.on is not None else None
+        for role in roles:
+            known, new = self.dying.get((role, key)), all_of or frozenset([role])
+            self.dying[(role, key)] = new if known is None else known | new
+
+    def _step(self, key: Key, roles: list[Element], step: Step) -> None:
+        why = Why(step.place, step.conditions, way='other' if step.on or key in self.program.folded else 'same')
+        of_owner = self.program.members[step.member].owner
+        to = self._of_all(step.on, step.member) if step.on is not None else None
+        for role in roles:
+            own = self._of_one(role, step.member) if step.on is None else to
+            self._add((role, key), why, own or self._of_all(of_owner, step.member))
 
     def _wires(self) -> None:
+        members = self.program.members
         for wire in self.program.wires:
             if wire.how == 'queued' and not self.queued:
                 continue
-            for sender in self.roles(wire.sender):
-                for receiver in self.roles(wire.receiver) if (sender, wire.signal) in self.edges else ():
-                    self._add((sender, wire.signal), (receiver, wire.method), Why(wire.place, (), wire.how == 'queued', wire.way, True))
+            why = Why(wire.place, (), wire.how == 'queued', wire.way, True)
+            self._from_all(wire.sender, wire.signal, why, self._of_all(wire.receiver, wire.method))
         for bound in self.program.bound:
-            for source in bound.sources:
-                for role in self.roles(self.program.members[source].owner) if source in self.program.members else ():
-                    for target in self.roles(self.program.members[bound.target].owner):
-                        self._add((role, source), (target, bound.target), Why(bound.place))
+            for source in (s for s in bound.sources if s in members):
+                self._from_all(members[source].owner, source, Why(bound.place), self._of_all(members[bound.target].owner, bound.target))
+
+    def _from_all(self, role: Element, key: Key, why: Why, targets: Targets | None) -> None:
+        for node in ((r, key) for r in self.roles(role)):
+            if node in self.outs:
+                self._add(node, why, targets)
 
     def without(self, how: str) -> Graph:
         """The graph without the steps that have such a condition."""
         other = copy(self)
-        other.edges = {node: {to: why for to, why in edges.items() if all(c.how != how for c in why.conditions)}
-                       for node, edges in self.edges.items()}
+        other.outs = {node: [(why, to) for why, to in outs if all(c.how != how for c in why.conditions)] for node, outs in self.outs.items()}
+        other.edges = Edges(other.outs)
+        other.__dict__.pop('links', None)
         return other
+
+    @cached_property
+    def links(self) -> dict[Link, list[Link]]:
+        """What a node leads to, and those together to which others lead together."""
+        found: dict[Link, list[Link]] = {}
+        for node, outs in self.outs.items():
+            found[node] = [to.nodes[0] if len(to.nodes) == 1 else to for _, to in outs]
+        together = {id(to): to for outs in self.outs.values() for _, to in outs if len(to.nodes) > 1}
+        return found | {to: list(to.nodes) for to in together.values()}
+
+    def components(self, without: Collection[Node] = ()) -> list[set[Node]]:
+        """The sets of nodes that all lead to one another, of two or more or of one that leads to itself: without some nodes."""
+        links = {n: [m for m in to if m not in without] for n, to in self.links.items() if n not in without} if without else self.links
+        found = []
+        for part in parts(links):
+            nodes = {n for n in part if not isinstance(n, Targets)}
+            if nodes and (len(part) > 1 or any(n in links[n] for n in nodes)):
+                found.append(nodes)
+        return found
 
     def name(self, node: Node) -> str:
         """A node as the verdict names it."""
@@ -97,11 +189,13 @@ class Graph:
              most: int = 1 << 30) -> dict[Node, Node | None]:
         """By a node the one before it on a shortest way from one of the starts, until the goal is found."""
         before: dict[Node, Node | None] = {n: None for n in starts}
-        level, count = list(starts), 1
+        level, count, seen = list(starts), 1, set[Targets]()
         while level and count < most and goal not in before:
             following: list[Node] = []
             for node in level:
-                for other in self.edges[node]:
+                new = [to for _, to in self.outs[node] if to not in seen]
+                seen.update(new)
+                for other in (n for to in new for n in to.nodes):
                     if other not in before and (within is None or other in within):
                         before[other] = node
                         following.append(other)

@@ -1,4 +1,5 @@
-"""Objects that Qt makes in others, one in each: the selection of a view, the line edit of a box. Another one may be handed over."""
+"""Objects that Qt makes in others, one in each: the selection of a view, the line edit of a box, the model of a list, table or tree of
+items. Another one may be handed over."""
 from __future__ import annotations
 
 from collections import defaultdict
@@ -24,7 +25,9 @@ class Kind(NamedTuple):
 
 OF_VIEWS = Kind(VIEW, SELECTION, GIVING[0], 'setSelectionModel', 'selection')
 OF_BOXES = tuple(Kind(box, 'QLineEdit', GIVING[1], 'setLineEdit', 'line') for box in ('QComboBox', 'QAbstractSpinBox'))
-KINDS = (OF_VIEWS, *OF_BOXES)
+# Views whose model of items is of their own making: they take no other.
+OF_ITEMS = tuple(Kind(view, MODEL, GIVING[2], '', 'model') for view in ('QListWidget', 'QTableWidget', 'QTreeWidget'))
+KINDS = (OF_VIEWS, *OF_BOXES, *OF_ITEMS)
 
 
 class Inner:
@@ -40,17 +43,16 @@ class Inner:
         self._asking: set[Element] = set()
         self._shown: dict[Element | None, set[Element]] | None = None
 
-    def kind(self, element: Element) -> Kind | None:
+    def kinds(self, element: Element) -> list[Kind]:
         """What Qt makes in objects of a class."""
         cls = self.objects.cls(element)
-        return next((kind for kind in KINDS if self.whole.is_named(cls, kind.around)), None)
+        return [kind for kind in KINDS if self.whole.is_named(cls, kind.around)]
 
-    def of(self, holder: Element, makes: bool = False) -> set[Element] | None:
+    def of(self, holder: Element, kind: Kind, makes: bool = False) -> set[Element] | None:
         """What is inside an object: one that Qt made, and what it may have been handed; one for all objects of a class of the application.
         None where it isn't known which object it is. Where nobody asks for it, none is made."""
-        kind = self.kind(holder)
-        around = self._around(holder, kind) if kind is not None else None
-        if kind is None or around is None or self._is_shared and kind is OF_VIEWS:
+        around = self._around(holder, kind)
+        if around is None or self._is_shared and kind is OF_VIEWS:
             return None
         made = around._replace(kind='site', key=f'I:{kind.giving}:{around.key}')
         if makes and made.key not in self.whole.sites:
@@ -60,7 +62,9 @@ class Inner:
 
     def given(self, value: Value) -> set[Element] | None:
         """What a function gives of the objects inside; none where it isn't known of which."""
-        found = [self.of(holder, True) for holder in self.objects.resolve(value.parts[0], True)]
+        holders = self.objects.resolve(value.parts[0], True)
+        of_holders = [(holder, next((kind for kind in self.kinds(holder) if kind.giving == value.key), None)) for holder in holders]
+        found = [self.of(holder, kind, True) if kind is not None else None for holder, kind in of_holders]
         known = [one for one in found if one is not None]
         if known and len(known) == len(found):
             return set().union(*known)
@@ -119,15 +123,16 @@ class Inner:
         """Makes the selections of all views and what else is asked for, before roles are told apart, and notes what is in which object."""
         whole = self.whole
         asked = [value for c in whole.connects for value in (c.sender, c.receiver)] + [s.on for f in whole.functions.values() for s in f.statements]
+        asked += [value for handed in whole.handed for value in (handed.on, *(one for _, one in handed.given))]
         for value in asked:
             self._ask(value)
         holders = [places('site', key) for key in whole.sites] + [places('class', key) for key, cls in whole.classes.items() if cls.inside]
         for holder in holders:
-            kind = self.kind(holder)
-            around = self._around(holder, kind) if kind is not None and kind.cls in whole.by_name else None
-            if around is not None:
-                for inner in self.of(holder, kind is OF_VIEWS) or ():
-                    self.around[inner].add(around)
+            for kind in self.kinds(holder):
+                around = self._around(holder, kind) if kind.cls in whole.by_name else None
+                if around is not None:
+                    for inner in self.of(holder, kind, kind is OF_VIEWS) or ():
+                        self.around[inner].add(around)
 
     def _ask(self, value: Value) -> None:
         """Makes what an expression asks for."""

@@ -1,8 +1,10 @@
 """Instances of the application's templates that a library's own functions ask for, and nobody else. Where the bodies of these were passed
-over, they aren't there: then the unit is read again with the bodies. That isn't done for what can only copy, compare or tell."""
+over, they aren't there: then the unit is read again with the bodies. That isn't done for what can only copy, compare or tell, nor for a
+destructor that can only end plain values (`ending.py`)."""
 from __future__ import annotations
 
 from .context import Context
+from .ending import may_act
 from .libclang import Cursor, K, T
 
 CALLED = 'operator()'
@@ -11,15 +13,17 @@ CALLED = 'operator()'
 def lacks_bodies(context: Context) -> bool:
     """Whether an instance isn't there that a library's function may have made, and that may do something."""
     told = {(function.cls, *function.place[:3]) for function in context.facts.functions.values() if function.cls}
-    return context.asks_bodies or any(_lacks(context, key, pattern, told) for key, pattern in context.classes.patterns)
+    return context.asks_bodies or any(_lacks(context, key, instance, pattern, told) for key, instance, pattern in context.classes.patterns)
 
 
-def _lacks(context: Context, key: str, pattern: Cursor, told: set[tuple[str, str, int, int]]) -> bool:
+def _lacks(context: Context, key: str, instance: Cursor, pattern: Cursor, told: set[tuple[str, str, int, int]]) -> bool:
     for member in pattern.get_children():
         if member.kind == K.FUNCTION_TEMPLATE and member.spelling == CALLED:
             return True
         definition = member.get_definition() if _may_act(member) else None
-        if definition is not None and _has_body(definition) and (key, *context.place(definition, 0)[:3]) not in told:
+        if definition is None or not _has_body(definition) or (key, *context.place(definition, 0)[:3]) in told:
+            continue
+        if member.kind != K.DESTRUCTOR or may_act(context, instance, pattern):
             return True
     return False
 

@@ -1,16 +1,19 @@
-"""Items of lists, tables and trees, which are no QObjects: the widget around them tells what becomes of them."""
+"""Items of lists, tables, trees and models, which are no QObjects: the widget or model that has them tells what becomes of them."""
 from __future__ import annotations
 
 import re
 from collections import defaultdict
+from typing import Sequence
 
+from .inner import MODEL
 from .model import Connect, Value
 from .objects import Element, Objects
 
-# The classes of items whose widget has a model of its own making.
-ITEMS_OF = {'QListWidgetItem': 'QListWidget', 'QTableWidgetItem': 'QTableWidget', 'QTreeWidgetItem': 'QTreeWidget'}
-# Functions by which a widget, or an item of it, is handed an item.
-PUTTING = re.compile(r'(add|insert|set)\w*(Items?|Child|Children)$')
+# The classes of items whose widget has a model of its own making, and those of what has items of a class.
+WIDGETS_OF = {'QListWidgetItem': 'QListWidget', 'QTableWidgetItem': 'QTableWidget', 'QTreeWidgetItem': 'QTreeWidget'}
+ITEMS_OF = {**WIDGETS_OF, 'QStandardItem': 'QStandardItemModel'}
+# Functions by which a widget or a model, or an item of it, is handed an item.
+PUTTING = re.compile(r'(add|append|insert|set)\w*(Items?|Child|Children|Rows?|Columns?)$')
 
 # What an item is in; none where that isn't known.
 Lists = frozenset[Element] | None
@@ -122,11 +125,24 @@ class Items:
                 if element.kind == 'site' or self.whole.sites[key].cls in below:
                     self._put[key].append(holder)
 
+    def holders(self, element: Element, lists: list[Element]) -> list[Element] | None:
+        """The widgets that an item may be in: the lists that are known, else any of the class that has such items; none of no item."""
+        names = [widget for item, widget in WIDGETS_OF.items() if self.whole.is_named(self.objects.cls(element), item)]
+        return lists or [Element('class', key) for name in names for key in self.whole.by_name.get(name, ())] if names else None
+
+    def lists_of(self, element: Element, name: str, lists: Sequence[Element]) -> Sequence[Element]:
+        """What the items of a class are in that a function of Qt calls on an object: in the object itself, or, of an item, with it."""
+        names = self.whole.names_above(self.objects.cls(element))
+        if name in names:
+            return lists if name in ITEMS_OF else ()
+        is_any = element.kind == 'class' and not self.whole.is_inside(element.key)
+        return (element,) if ITEMS_OF.get(name) in names and not is_any else ()
+
     def may_reach(self, element: Element, name: str) -> bool:
         """Whether a function of Qt on a view or a model may call those of items or models of a class: the widgets with items have models
         of their own making, and no other view and no model of the application has such items."""
-        cls, widget = self.objects.cls(element), ITEMS_OF.get(name, '')
+        cls, widget = self.objects.cls(element), WIDGETS_OF.get(name, '')
         if self.whole.is_named(cls, 'QAbstractItemView'):
             above = element.kind == 'class' and any(self.whole.is_a(it, cls) for it in self.whole.by_name.get(widget, ()))
-            return above or self.whole.is_named(cls, widget) if widget else name != 'QAbstractItemModel' or not self._has_items(element)
-        return not (widget and self.whole.is_named(cls, 'QAbstractItemModel') and self.whole.is_inside(cls))
+            return above or self.whole.is_named(cls, widget) if widget else name != MODEL or not self._has_items(element)
+        return not (widget and self.whole.is_named(cls, MODEL) and self.whole.is_inside(cls))

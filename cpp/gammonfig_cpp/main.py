@@ -17,6 +17,7 @@ from .places import Places
 from .qtmodel import Table
 from .report import Teller, judge
 from .slicing import keep_slice
+from .splitting import split_functions
 from .store import Cache
 from .units import units_of
 from .warned import Warnings
@@ -25,6 +26,8 @@ from .writing import Writing, Written
 
 HERE = os.path.dirname(os.path.abspath(__file__))
 STRICT = 3
+# How many connections that weren't understood are told at once.
+MOST_LEFT_OUT = 20
 
 
 def arguments(words: list[str]) -> argparse.Namespace:
@@ -100,8 +103,9 @@ def write_program(facts: list[Facts], roots: list[str], options: argparse.Namesp
         say(f'the whole program is over a limit of the language ({"; ".join(over)}): members that lead to nothing are left out')
         linked.make_lean()
         written = Writing(linked.program, *roots).write()
-        over = written.size.over(STANDARD)
-    too_wide = written.size.over(WIDE)
+    if split_functions(linked.program):
+        written = Writing(linked.program, *roots).write()
+    over, too_wide = written.size.over(STANDARD), written.size.over(WIDE)
     rest = 'what is on a circle or on a way to a deletion' if options.slice else 'the program'
     if too_wide:
         offer = '' if options.slice else ': --slice keeps what is on a circle or on a way to a deletion'
@@ -126,6 +130,14 @@ def refuse_twice(linked: Linked, written: Written, options: argparse.Namespace) 
             raise ReadError(f'{name} is declared in {first} and in {second}: read each program of the build alone, with --root or --only')
 
 
+def say_left_out(connections: list[str], out: str) -> None:
+    """Connections that weren't understood are often faults, as one to a signal that isn't there."""
+    for one in connections[:MOST_LEFT_OUT]:
+        say(f'left out: {one}')
+    if len(connections) > MOST_LEFT_OUT:
+        say(f'left out: {len(connections) - MOST_LEFT_OUT} more connections, which {os.path.join(out, "app.effects.md")} has')
+
+
 def read(options: argparse.Namespace, out: str, roots: list[str]) -> int:
     """Reads and writes; the status."""
     begun = time.time()
@@ -139,6 +151,7 @@ def read(options: argparse.Namespace, out: str, roots: list[str]) -> int:
     write_files(out, {'app.gf': written.text, 'app.places': written.places.text(), 'app.effects.md': notes.text(),
                       'app.warnings.json': Watching(linked.program, written.names, written.places).text(bool(written.size.over(STANDARD)))})
     if not options.quiet:
+        say_left_out(notes.left_out(), out)
         connects = linked.understood + len(linked.dropped)
         say(f'{len(facts)} units, {linked.understood} of {connects} connections understood, {notes.hiding()} unknowns, '
             f'{time.time() - begun:.0f} s: {os.path.join(out, "app.gf")}')

@@ -72,7 +72,7 @@ def exclude(one: tuple[Condition, ...], other: tuple[Condition, ...]) -> bool:
 
 
 class Named(NamedTuple):
-    """What an argument of `connect` names: `text`, `name` (of a signal), `method`, `static`, `free`, `lambda`, `bound` (a method
+    """What an argument of `connect` names: `text` (the key is `slot`, `signal` or none), `name` (of a signal), `method`, `static`, `free`, `lambda`, `bound` (a method
     of `on`), `parameter` (of the function that forwards it) or `unknown`."""
     kind: str
     key: str = ''
@@ -89,7 +89,8 @@ class Statement:
     (setProperty by name), `event` (sendEvent), `invoke`, `post`, `nested`, `assign` (a compared member is set), `field`, `read`,
     `bind`, `observe` (of bindable properties), `close` (an object is told to delete itself), `part` (it has the owner `to` from here on,
     or none; `perhaps` where the function may have returned before). `how` is `queued` and such of a call by
-    name, `told` of an emission that only tells what was set, and of a deletion `own`, of what the member `field` of this object holds, or `child`."""
+    name, `told` of an emission that only tells what was set, `later` of a function of Qt that has what it is handed run later, and of a deletion
+    `own`, of what the member `field` of this object holds, or `child`."""
     kind: str
     place: Place
     on: Value = NONE
@@ -162,7 +163,7 @@ class Site(NamedTuple):
 
 @dataclass(slots=True)
 class Connect:
-    """A connection; `is_same` where one variable names both the sender and the receiver."""
+    """A connection; `is_same` where one variable, or `this`, names both the sender and the receiver."""
     sender: Value
     sender_class: str
     signal: Named

@@ -1,6 +1,7 @@
 """Names of the class language for roles, members and parameters, and which role stands below which."""
 from __future__ import annotations
 
+import os
 import re
 from collections import defaultdict
 
@@ -70,14 +71,14 @@ class Naming:
         for owner, child, _ in program.owns:
             used |= {owner, child}
         for element in list(used):
-            if element.kind == 'site' and element != FREE and self.whole.is_inside(self.objects.cls(element)):
+            if element.kind == 'site' and self.whole.is_inside(self.objects.cls(element)):
                 used.add(Element('class', self.objects.cls(element)))
         return used
 
     def _chain(self, role: Element) -> list[Element]:
         """The roles above one, nearest first; of several bases the one that is a QObject."""
         whole = self.whole
-        if role == FREE:
+        if role.kind == FREE.kind:
             return []
         found = [Element('class', self.objects.cls(role))] if role.kind == 'site' else []
         at = self.objects.cls(role)
@@ -89,18 +90,19 @@ class Naming:
         return [x for x in found if x in self.used and not self.is_object(x)]
 
     def _rank(self, role: Element) -> tuple[object, ...]:
-        if role == FREE:
-            return (True, 0, '~', 0, '')
+        if role.kind == FREE.kind:
+            return (True, 0, '~', 0, role.key)
         whole, cls = self.whole, self.objects.cls(role)
         place = whole.sites[role.key].place if role.kind == 'site' else whole.classes[cls].place
         return (whole.is_inside(cls), len(self.above[role]), place.file, place.line, role.key)
 
     def _class_names(self) -> dict[Element, str]:
+        """Of two classes of one name that which is a QObject has it: a window is called so, and not its form, which uic wrote."""
         names: dict[Element, str] = {}
         taken: set[str] = set()
-        for role in sorted(self.used, key=lambda r: (r.kind != 'class', self._rank(r))):
-            if role == FREE:
-                wanted = 'Functions'
+        for role in sorted(self.used, key=lambda r: (r.kind != 'class', r.kind == 'class' and not self.whole.is_named(r.key, 'QObject'), self._rank(r))):
+            if role.kind == FREE.kind:
+                wanted = FREE.key if role == FREE else identifier(f'{FREE.key}_{os.path.splitext(os.path.basename(role.key))[0]}')
             elif self.is_object(role):
                 names[role] = 'QObject'
                 continue

@@ -6,6 +6,8 @@ from .libclang import NAMES, RECORDS, VARIABLES, Cursor, K, first_text, strip
 from .model import Named
 
 BINDERS = ('bind', 'bind_front', 'mem_fn')
+# What the macros SLOT and SIGNAL write before a name: Qt takes no signal for a slot.
+SORTS = {'1': 'slot', '2': 'signal'}
 UNDERSTOOD = ('text', 'method', 'static', 'free', 'lambda', 'bound', 'parameter')
 
 
@@ -25,7 +27,7 @@ class Callees:
         if text is not None:
             text = text.split('\\000')[0]
             if text[:1] in ('0', '1', '2') and '(' in text:
-                return Named('text', name=text[1:])
+                return Named('text', SORTS.get(text[0], ''), name=text[1:])
         for k in inner:
             found = self._one(k, cursor, stripped)
             if found is not None:

@@ -57,12 +57,16 @@ class Notes:
         found = sum(1 for u in self.whole.unknown if u.kind in HIDING)
         return found + len(self.linked.dropped) + len(self.errors) + len(self.program.silent)
 
+    def left_out(self) -> list[str]:
+        """The connections that weren't understood, each with the reason."""
+        return [f'{self._at(c.place)}: {why}: `{c.place.words}`' for why, c in self.linked.dropped]
+
     def text(self) -> str:
         self.lines = ['# What was not understood', '',
                       'The program that was written is what is judged. That it stands for the C++ holds up to what this page lists.', '']
         self._counts()
         self._list('Errors of clang', [f'`{e}`' for e in self.errors])
-        self._list('Connections that are left out', [f'{self._at(c.place)}: {why}: `{c.place.words}`' for why, c in self.linked.dropped])
+        self._list('Connections that are left out', self.left_out())
         self._silent()
         self._unknown()
         self._list('Plain recursion', ['Functions that call one another without a signal between aren\'t judged: each is taken to do what all '

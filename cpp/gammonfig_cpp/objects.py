@@ -18,6 +18,7 @@ class Element(NamedTuple):
     key: str
 
 
+# What has the functions without an object: `splitting.py` has one for each file.
 FREE = Element('free', 'Functions')
 
 

@@ -51,7 +51,7 @@ class Parting:
         statement = context.add('part', call, on)
         statement.to = NULL if to.kind == 'none' else to
         statement.how = 'perhaps' if context.function is not None and context.function.key in self._returning else ''
-        here, names = tuple(context.conditions), {identity(on), identity(self._last(on))} - {None}
+        here, names = tuple(context.conditions), {identity(on), identity(self.last(on))} - {None}
         for it in self._owned:
             child = identity(it.child)
             if context.function is not None and it.function == context.function.key and child is not None and child in names \
@@ -67,7 +67,7 @@ class Parting:
         """Whether a variable was given something else meanwhile."""
         return child[0] == 'variable' and any(key == child[1] for key, _ in self.context.facts.flows[since:])
 
-    def _last(self, on: Value) -> Value:
+    def last(self, on: Value) -> Value:
         """What a variable was last given."""
         on = on.uncast()
         if on.kind != 'variable':

@@ -84,7 +84,22 @@ class Program:
         self.folded: set[Key] = set()
         # Slots that run an event loop of their own.
         self.modal: dict[Key, Place] = {}
+        # What statements emit, where members were left out that did.
+        self._emitted: set[Key] | None = None
         self._owners: tuple[int, list[tuple[Element, Element, Place]]] | None = None
+
+    def emitted(self) -> set[Key]:
+        """The signals that statements emit."""
+        return self._emitted if self._emitted is not None else {s.member for m in self.members.values() if not m.library for s in m.steps}
+
+    def leave_out_members(self, kept: set[Key]) -> None:
+        """Leaves out members that aren't kept, with the steps, wires and bindings to them. What they emitted is known still."""
+        self._emitted = self.emitted()
+        self.members = {k: m for k, m in self.members.items() if k in kept}
+        for member in self.members.values():
+            member.steps = [s for s in member.steps if s.kind == 'delete' or s.member in kept]
+        self.wires = [w for w in self.wires if w.signal in kept and w.method in kept]
+        self.bound = [b for b in self.bound if b.target in kept and any(s in kept for s in b.sources)]
 
     # Roles
 

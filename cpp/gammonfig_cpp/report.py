@@ -4,6 +4,7 @@ from __future__ import annotations
 import json
 import os
 import subprocess
+from collections import Counter
 from dataclasses import dataclass, field
 from typing import Any
 from urllib.parse import quote
@@ -66,30 +67,49 @@ def checker(here: str) -> list[str]:
 
 
 USAGE = 1
+# The gravest first.
+SEVERITIES = ('error', 'warning', 'note')
 # What the reader's own steps go by, in the words of the checker's.
 BY = {'queued': 'wire', 'direct': 'statement'}
 
 
+# Of a rule that has more findings than these, others are kept out where not all are written.
+CROWDED = 50
+
+
 def judge(program: str, places: Places, wide: bool = False) -> Verdict:
-    """What the checker says of a program, with its places in C++. A `wide` one is over the standard limits."""
+    """What the checker says of a program, with its places in C++. A `wide` one is over the standard limits. The checker writes a hundred
+    errors: where circles are so many, it is asked for what stands behind them."""
+    told, status = _asked(program, wide, [])
+    found, more = told['findings'], int(told.get('more', 0))
+    counts = Counter(str(f['rule']) for f in found)
+    crowding = sorted(rule for rule, count in counts.items() if count > CROWDED) if more else []
+    if crowding:
+        others, _ = _asked(program, wide, [word for rule in crowding for word in ('--off', rule)])
+        behind = [f for f in others['findings'] if f not in found]
+        found, more = found + behind, max(more - len(behind), 0)
+    findings = sorted((finding_of(f, places) for f in found), key=lambda f: SEVERITIES.index(f.severity))
+    return Verdict(findings, more, int(told.get('accepted', 0)), status)
+
+
+def _asked(program: str, wide: bool, options: list[str]) -> tuple[dict[str, Any], int]:
+    """The checker's answer to a program, and its status."""
     command = checker(os.path.dirname(os.path.abspath(__file__)))
     # The script takes `--wide` behind the word, and the built program in front of it.
     forms = [['verdict', '--wide', '--json'], ['--wide', 'verdict', '--json']] if wide else [['verdict', '--json']]
     for form in forms:
         with open(program, encoding='utf-8') as text:
-            done = subprocess.run(command + form, stdin=text, stdout=subprocess.PIPE, stderr=subprocess.PIPE if wide else None, text=True,
-                                  check=False)
+            done = subprocess.run(command + form + options, stdin=text, stdout=subprocess.PIPE, stderr=subprocess.PIPE if wide else None,
+                                  text=True, check=False)
         if done.returncode != USAGE:
             break
     if wide and done.returncode == USAGE:
         raise ReadError(f'{program}: the program is over the standard limits, and {command[0]} gives no verdict with --wide: '
                         'read it with --slice, or take a newer checker')
     try:
-        told = json.loads(done.stdout)
+        return dict(json.loads(done.stdout)), done.returncode
     except ValueError as wrong:
         raise ReadError(f'{program}: the checker gave no verdict (status {done.returncode})') from wrong
-    findings = [finding_of(f, places) for f in told['findings']]
-    return Verdict(findings, int(told.get('more', 0)), int(told.get('accepted', 0)), done.returncode)
 
 
 def spot_of(told: dict[str, Any], places: Places) -> Spot:
@@ -112,7 +132,8 @@ def finding_of(told: dict[str, Any], places: Places) -> Finding:
         first = next((s.spot for s in chain if s.spot.file), None)
         spot = first or spot
     rule = str(told['rule'])
-    return Finding(spot, rule, int(told.get('number', 0)), str(told['message']), in_cpp(rule, str(told.get('help') or '')), chain,
+    of_libraries = {name for s in chain if not s.spot.file for name in (s.from_, s.to)}
+    return Finding(spot, rule, int(told.get('number', 0)), str(told['message']), in_cpp(rule, str(told.get('help') or ''), of_libraries), chain,
                    str(told.get('severity', 'error')))
 
 

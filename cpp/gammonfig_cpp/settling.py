@@ -14,13 +14,13 @@ class Settling:
 
     def sets(self) -> list[list[str]]:
         """The members of each set that settles, by their names."""
-        found = components({n: list(to) for n, to in self.graph.edges.items()})
-        return [sorted(self.graph.name(n) for n in members) for members in found if self._settles(members)]
+        return [sorted(self.graph.name(n) for n in members) for members in self.graph.components() if self._settles(members)]
 
     def _settles(self, members: set[Node]) -> bool:
         kept = {n for n in members if self._member(n).kind == 'property'}
-        left = {n: [m for m in self.graph.edges[n] if m in members and m not in kept] for n in members}
-        if not kept or components(left) or any(n in self.graph.dying for n in members):
+        if not kept or any(n in self.graph.dying for n in members):
+            return False
+        if components({n: [m for m in self.graph.edges[n] if m in members and m not in kept] for n in members}):
             return False
         bound = {b.target for b in self.program.bound}
         return not any(n[1] in bound for n in kept) and self._hands_on(members, kept)

@@ -33,7 +33,7 @@ class Sources:
     def of(self, element: Element, kind: Kind = MODELS) -> list[Element]:
         """The models, or delegates, that an object was handed; none where none is known."""
         if (element, kind) not in self._known:
-            self._known[element, kind] = sorted({one for on, one in self._all(kind) if self._may_be(on, element)})
+            self._known[element, kind] = sorted({one for on, one in self._all(kind) if self.may_be(on, element)})
         return self._known[element, kind]
 
     def in_view(self, view: Element, name: str) -> list[Element] | None:
@@ -57,7 +57,7 @@ class Sources:
                 for on in self.objects.elements(handed.on, handed.cls):
                     yield from ((on, one) for each in found for one in self.calling.others(each, on))
 
-    def _may_be(self, one: Element, other: Element) -> bool:
+    def may_be(self, one: Element, other: Element) -> bool:
         """Whether two elements may stand for one object."""
         if one.kind == other.kind == 'site':
             return self.objects.role(one) == self.objects.role(other)

@@ -19,8 +19,9 @@ SPECIAL = {('QObject', 'connect'), ('QObject', 'disconnect'), ('QMetaObject', 'i
            ('QObject', 'deleteLater'), ('QObject', 'blockSignals'), ('QObject', 'moveToThread'), ('QObject', 'setProperty'),
            ('QCoreApplication', 'sendEvent'), ('QMetaObject', 'connectSlotsByName'), ('QMetaObject', 'disconnect'),
            ('QSignalBlocker', 'unblock'), ('QSignalBlocker', 'reblock')}
-# Functions of trees that are handed a list of items.
-SEVERAL_ITEMS = {'addTopLevelItems', 'insertTopLevelItems', 'addChildren', 'insertChildren'}
+# Functions of trees and models that are handed a list of items.
+SEVERAL_ITEMS = {'addTopLevelItems', 'insertTopLevelItems', 'addChildren', 'insertChildren', 'appendRow', 'appendRows', 'insertRow', 'insertRows',
+                 'appendColumn', 'insertColumn'}
 
 
 class Special:
@@ -123,7 +124,8 @@ class Special:
     def _hand(self, call: Cursor, name: str, on: Value, given: list[Cursor]) -> None:
         """Objects that are handed to a function of Qt, which may become their owner; as number 0 one that it made itself, and returns."""
         context, handed = self.context, list[tuple[int, Value]]()
-        if context.values.is_factory(name, context.classes.of(call.type)):
+        made = context.classes.of(call.type)
+        if context.values.is_factory(name, made) and context.values.given_back(call, made) is None:
             handed.append((0, context.values.of(call)))
         for at, argument in enumerate(given, 1):
             cls = context.classes.of(argument.type)

@@ -50,7 +50,7 @@ class Targets:
         if kind == 'method':
             return [t for e in found for t in self._method(e, named)]
         if kind in ('text', 'name'):
-            return [t for e in found for t in self._text(e, named.name)]
+            return [t for e in found for t in self._text(e, named.name, named.key == 'slot')]
         return []
 
     def _method(self, element: Element, named: Named) -> list[Target]:
@@ -79,17 +79,17 @@ class Targets:
             return [(program.role(element), program.without_body(usr))]
         return []
 
-    def _text(self, element: Element, signature: str) -> list[Target]:
+    def _text(self, element: Element, signature: str, is_slot: bool) -> list[Target]:
         whole = self.whole
         found = re.match(r'\s*(\w+)\s*\((.*)\)', signature)
         name, types = (found[1], found[2]) if found else (signature, '')
         cls = self.objects.cls(element)
-        usr = whole.slot(whole.above(cls), name, types)
+        usr = whole.slot(whole.above(cls), name, types, is_slot)
         if usr is not None:
             return self._hit(element, usr, name)
         out = []
         for below in whole.below(cls)[1:] if element.kind == 'class' else ():
-            other = whole.slot([below], name, types)
+            other = whole.slot([below], name, types, is_slot)
             if other is not None:
                 out += self._hit(Element('class', below), other, name)
         return out

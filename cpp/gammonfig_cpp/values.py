@@ -23,10 +23,10 @@ FACTORY_CLASSES = {'QAction', 'QMenu', 'QToolBar', 'QPushButton', 'QTcpSocket', 
                    'QGraphicsRectItem', 'QGraphicsTextItem', 'QGraphicsLineItem', 'QGraphicsEllipseItem', 'QGraphicsPixmapItem',
                    'QGraphicsPathItem', 'QGraphicsSimpleTextItem', 'QGraphicsPolygonItem', 'QThread', 'QMdiSubWindow'}
 HELD = {'widget', 'currentWidget', 'centralWidget', 'itemAt', 'activeSubWindow', 'currentSubWindow', 'takeAt', 'cellWidget', 'indexWidget'}
-# Functions by which a list, a tree or a table gives one of its items, or an item one of the same tree.
+# Functions by which a list, a tree, a table or a model gives one of its items, or an item one of the same tree.
 ITEMS = {'item', 'currentItem', 'itemAt', 'topLevelItem', 'itemFromIndex', 'selectedItems', 'findItems', 'itemAbove', 'itemBelow', 'headerItem',
-         'invisibleRootItem', 'items', 'child', 'parent'}
-ITEM_WIDGETS = ('QListWidget', 'QTreeWidget', 'QTableWidget', 'QTreeWidgetItem')
+         'horizontalHeaderItem', 'verticalHeaderItem', 'invisibleRootItem', 'items', 'child', 'parent'}
+HAVING_ITEMS = ('QListWidget', 'QTreeWidget', 'QTableWidget', 'QTreeWidgetItem', 'QStandardItemModel', 'QStandardItem')
 # Functions of Qt that may give away what an object has owned: the table says which of them do.
 GIVING_AWAY = re.compile('(take|remove|replace|set)[A-Z]')
 
@@ -108,6 +108,11 @@ class Values:
         """Whether a function of Qt gives an object of a class that it made itself."""
         return name in FACTORIES and bool(cls) and self.context.facts.classes[cls].name in FACTORY_CLASSES
 
+    def given_back(self, call: Cursor, cls: str) -> Cursor | None:
+        """What a function that makes objects was handed of their class, and so gives back: a group of actions does."""
+        given = next(iter(call.get_arguments()), None)
+        return given if given is not None and self.context.classes.of(given.type) == cls else None
+
     def _called(self, cursor: Cursor, depth: int) -> Value:
         classes, called = self.context.classes, cursor.referenced
         cls, given = classes.of(cursor.type), list(cursor.get_arguments())
@@ -153,13 +158,14 @@ class Values:
             return None
         if name == 'sender' and parent == 'QObject':
             return Value('sender', self.context.function.key if self.context.function else '', cls)
-        if name in ITEMS and parent in ITEM_WIDGETS and on is not None:
+        if name in ITEMS and parent in HAVING_ITEMS and on is not None:
             return Value('class', cls=cls, parts=(self.of(on, depth + 1),))
         if name in HELD:
             holder = self.of(on, depth + 1) if on is not None else self.context.this
             return Value('content', cls=cls, parts=(holder,))
         if self.is_factory(name, cls):
-            return self.made_by_call(cursor, cls)
+            back = self.given_back(cursor, cls)
+            return self.of(back, depth + 1) if back is not None else self.made_by_call(cursor, cls)
         if GIVING_AWAY.match(name) or name in GIVING:
             return Value('given', name, cls, (self.of(on, depth + 1) if on is not None else self.context.this,))
         return None

@@ -8,7 +8,7 @@ from typing import Any
 
 from .apart import members_in, names
 from .errors import ReadError
-from .report import Finding, Spot, StepTold, Verdict
+from .report import SEVERITIES, Finding, Spot, StepTold, Verdict
 
 RESTS = ('each step hands on the value that it was given, and only a change is told: this comes to rest, where the setters '
          'that were read as properties compare; that is not proved')
@@ -24,8 +24,12 @@ OF_OWN = ('what is deleted is held by a member of the object that deletes it: an
 DIES_ONCE = 'an object dies on each way round, and each dies once: this goes on only while others are made; that is not proved'
 # The rule of wires that another one covers: here each is of the reader's writing, as one of some role and one of any object.
 COVERED = 'wire-unused'
-# Severities, the gravest first.
-GRAVE = ('error', 'warning', 'note')
+# The rule of programs without declarations: here nothing that was read leads to anything.
+EMPTY = 'empty-program'
+# The rule of slots that run an event loop, in which they may be called again: each way ends with such a slot.
+RE_ENTRY = 're-entry'
+# The rules whose findings end where they begin.
+CIRCLES = ('cycle', 'queued-cycle', 'settling-cycle')
 
 
 @dataclass
@@ -58,11 +62,12 @@ class Warnings:
             raise ReadError(f'{path}: the warnings can\'t be read: read the application again') from wrong
 
     def add_to(self, verdict: Verdict) -> None:
-        """Adds the warnings, but for rules that the verdict has itself; and tells of circles that come to rest. That what Qt posts to an
-        object is dropped with it isn't told: so Qt does it with each event; nor are wires that another covers."""
-        verdict.findings = [f for f in verdict.findings if f.rule != COVERED
+        """Adds the warnings, but for slots that the verdict has itself (of circles one for each set stays); and tells of circles that come to rest. That what Qt posts to an
+        object is dropped with it isn't told: so Qt does it with each event; nor are wires that another covers, and that nothing is left to
+        judge."""
+        verdict.findings = [f for f in verdict.findings if f.rule not in (COVERED, EMPTY)
                             and (f.rule != 'deletes-connected' or not {s.from_ for s in f.chain} & self.by_qt)]
-        own = {f.rule for f in verdict.findings}
+        entered = {f.chain[-1].to for f in verdict.findings if f.rule == RE_ENTRY and f.chain}
         for finding in verdict.findings:
             names = {s.from_ for s in finding.chain}
             if finding.rule == 'cycle' and any(names <= known for known in self.resting):
@@ -79,7 +84,7 @@ class Warnings:
                 finding.note, finding.severity = OF_OWN, 'note'
         # Of what is Qt's alone, and ends by itself, nobody has to know.
         verdict.findings = [f for f in verdict.findings if f.note != ONCE or any(s.spot.file for s in f.chain)]
-        verdict.findings += [warning_of(f) for f in self.found if f['rule'] not in own]
+        verdict.findings += [f for f in map(warning_of, self.found) if f.rule != RE_ENTRY or f.chain[-1].to not in entered]
         for finding in verdict.findings:
             if finding.rule == 'queued-cycle' and finding.chain and all(s.from_ in self.by_death for s in finding.chain):
                 finding.note, finding.severity = DIES_ONCE, 'note'
@@ -87,6 +92,7 @@ class Warnings:
                 finding.note, finding.severity = BLOCKED, 'note'
         self._one_for_each_set(verdict)
         self._one_for_each_tree(verdict)
+        _one_for_each_way(verdict)
 
     def _is_of_own(self, finding: Finding) -> bool:
         """Whether a slot deletes by a statement of its own what its object owns: no other object stands between."""
@@ -116,6 +122,21 @@ class Warnings:
         verdict.findings = [f for f in verdict.findings if f.note != CLIMBS or any(f is one for one in told.values())]
 
 
+def _one_for_each_way(verdict: Verdict) -> None:
+    """Of findings that go by the same lines of C++, with objects of other roles or by other ways in Qt, one is told: whoever mends it mends them
+    all."""
+    told: dict[object, list[Finding]] = {}
+    for at, finding in enumerate(verdict.findings):
+        spots = [(s.spot.file, s.spot.line, s.spot.column, s.is_later) for s in finding.chain if s.spot.file]
+        if finding.rule in CIRCLES:
+            spots = min((spots[i:] + spots[:i] for i in range(len(spots))), default=spots)
+        told.setdefault((finding.rule, finding.severity, finding.note, tuple(spots) or at), []).append(finding)
+    for first, *others in told.values():
+        if others:
+            first.message += f'; {len(others)} more by the same lines'
+    verdict.findings = [group[0] for group in told.values()]
+
+
 def _is_blocked(chain: list[StepTold]) -> bool:
     """Whether one step of a circle calls an object whose signals are blocked meanwhile, and a later one is a connection to a signal of it,
     which no event loop stands before."""
@@ -141,7 +162,7 @@ def _is_disconnected(chain: list[StepTold]) -> bool:
 
 def _chosen(group: list[Finding]) -> Finding:
     """The finding that is told of a group."""
-    chosen = min(group, key=lambda f: (GRAVE.index(f.severity), len(f.chain)))
+    chosen = min(group, key=lambda f: (SEVERITIES.index(f.severity), len(f.chain)))
     told = [(s.from_, s.to, s.spot) for s in chosen.chain]
     for step in (s for other in group for s in other.chain if s.is_later):
         if (step.from_, step.to, step.spot) not in told:

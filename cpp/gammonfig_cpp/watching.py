@@ -6,22 +6,12 @@ from __future__ import annotations
 import json
 
 from .climbing import Climbing
-from .graph import Graph, Node, Why, path
-from .graphs import components
+from .graph import Graph, Node, Why
 from .naming import Naming
 from .places import Places
 from .program import Program
+from .reentry import ReEntries
 from .settling import Settling
-
-# Signals for which an object waits for an answer: it doesn't emit them again meanwhile. All replies of a manager come by one thread,
-# which waits too.
-ANSWERED = {('QSslSocket', 'sslErrors'), ('QSslSocket', 'preSharedKeyAuthenticationRequired'), ('QSslSocket', 'handshakeInterruptedOnError'),
-            ('QAbstractSocket', 'proxyAuthenticationRequired'), ('QNetworkReply', 'sslErrors'),
-            ('QNetworkReply', 'preSharedKeyAuthenticationRequired'), ('QNetworkAccessManager', 'sslErrors'),
-            ('QNetworkAccessManager', 'preSharedKeyAuthenticationRequired'), ('QNetworkAccessManager', 'authenticationRequired'),
-            ('QNetworkAccessManager', 'proxyAuthenticationRequired')}
-# What a user does is kept from a window while a modal dialog is open, so it is no way back into a slot that opens one.
-BY_HAND = ('QWidget', 'QAction', 'QShortcut', 'QGuiApplication', 'QGraphicsItem', 'QSystemTrayIcon')
 
 
 class Watching:
@@ -47,24 +37,22 @@ class Watching:
 
     def _by_death(self) -> list[str]:
         """Members that lead back to themselves, but only by what runs because an object dies."""
-        edges, functions = self.graph.edges, self.program.whole.functions
+        functions = self.program.whole.functions
         # Of a function whose source isn't read nothing is known but its name.
         destructors = {key for key, function in functions.items() if function.kind == 'destructor'}
-        dying = {node for node in edges if node[1][0] in ('with', 'later') or (node[1][0] == 'function' and node[1][1] in destructors)}
-        circling = set[Node]().union(*components({n: list(to) for n, to in edges.items()}))
-        living = components({n: [m for m in to if m not in dying] for n, to in edges.items() if n not in dying})
-        return sorted(self.graph.name(node) for node in circling.difference(*living))
+        dying = {node for node in self.graph.outs if node[1][0] in ('with', 'later') or (node[1][0] == 'function' and node[1][1] in destructors)}
+        circling = set[Node]().union(*self.graph.components())
+        return sorted(self.graph.name(node) for node in circling.difference(*self.graph.components(dying)))
 
     def _circling(self) -> list[list[str]]:
         """The sets of members that lead to one another and in which an event loop is gone through."""
-        edges = self.graph.edges
-        return [sorted(self.graph.name(node) for node in members) for members in components({n: list(to) for n, to in edges.items()})
-                if any(why.queued and to in members for node in members for to, why in edges[node].items())]
+        return [sorted(self.graph.name(node) for node in members) for members in self.graph.components()
+                if any(why.queued and not members.isdisjoint(to.nodes) for node in members for why, to in self.graph.outs[node])]
 
     def _by_qt(self) -> list[str]:
         """What Qt's own functions post."""
         members = self.program.members
-        return sorted({self.graph.name(node) for node in self.graph.edges if node[1][0] == 'posted' and members[node[1]].library})
+        return sorted({self.graph.name(node) for node in self.graph.outs if node[1][0] == 'posted' and members[node[1]].library})
 
     def _once(self) -> list[list[str]]:
         """Steps of Qt's own that it doesn't take again before it has come back from them."""
@@ -100,7 +88,7 @@ class Watching:
         """A shortest circle with a queued step of each set of members that lead to one another; one through blocked signals, where there
         is no other."""
         found, free = [], self.graph.without('blocked by')
-        for members in components({n: list(to) for n, to in self.graph.edges.items()}):
+        for members in self.graph.components():
             best = self._shortest(free, members) or self._shortest(self.graph, members)
             if best is not None:
                 name = self.graph.name(best[0])
@@ -113,7 +101,8 @@ class Watching:
         """A shortest circle with a queued step among some members."""
         best: list[Node] | None = None
         for one in sorted(members):
-            for two, why in graph.edges[one].items():
+            is_queued = any(why.queued for why, _ in graph.outs[one])
+            for two, why in graph.edges[one].items() if is_queued else ():
                 most = len(best) - 2 if best is not None else len(members)
                 way = graph.way([two], one, members, most) if why.queued and two in members else None
                 if way is not None and (best is None or len(way) + 1 < len(best)):
@@ -122,44 +111,9 @@ class Watching:
 
     def _re_entries(self) -> list[dict[str, object]]:
         """Slots that run an event loop, in which they may be called again."""
-        found, before = [], self.graph.ways(self._by_the_loop())
-        circling = set().union(*components({n: list(to) for n, to in self.graph.edges.items()}))
-        for node in self.graph.edges:
-            place = self.program.modal.get(node[1])
-            if place is None or node[0] != self.program.members[node[1]].owner:
-                continue
-            way = path(before, node) if node in before else self._back(node) if node in circling else None
-            if way is not None:
-                told = self._finding('re-entry', f'`{self.graph.name(node)}` runs an event loop, in which it may be called again', way)
-                spot = {'file': self.places.relative(place.file), 'line': place.line, 'column': place.column, 'words': place.words}
-                found.append(told | spot)
+        found = []
+        for way, place in ReEntries(self.program, self.graph).ways():
+            told = self._finding('re-entry', f'`{self.graph.name(way[-1])}` runs an event loop, in which it may be called again', way)
+            spot = {'file': self.places.relative(place.file), 'line': place.line, 'column': place.column, 'words': place.words}
+            found.append(told | spot)
         return found
-
-    def _back(self, node: Node) -> list[Node] | None:
-        """A way from a slot back to it by what is posted."""
-        for first in self.graph.edges[node]:
-            way = self.graph.way([first], node)
-            if way is not None and any(self.graph.edges[a][b].queued for a, b in zip(way, way[1:])):
-                return way
-        return None
-
-    def _by_the_loop(self) -> list[Node]:
-        """Signals that an event loop brings about: of Qt's classes, that no statement emits, and no user by hand; and what Qt posts."""
-        whole, objects = self.program.whole, self.program.objects
-        emitted = {s.member for m in self.program.members.values() if not m.library for s in m.steps}
-        starts = []
-        for node in self.graph.edges:
-            key = node[1]
-            by_qt = key[0] == 'posted' and self.program.members[key].library
-            if self.program.members[key].kind != 'signal' or (key in emitted and not by_qt):
-                continue
-            cls = whole.class_of(key[1]) if key[0] == 'signal' else ''
-            by_hand = any(whole.is_named(cls, name) for name in BY_HAND) if cls else False
-            name = self.program.members[key].name.removeprefix('posted_')
-            is_answered = (whole.name(cls or objects.cls(node[0])), name) in ANSWERED
-            of_qt = cls and not whole.is_inside(cls) and not by_hand and objects.cls(node[0]) in whole.classes
-            # A thread is started by no event loop, and not again while it runs.
-            is_thread = by_qt and name == 'run'
-            if not is_answered and not is_thread and (by_qt or of_qt):
-                starts.append(node)
-        return starts

@@ -233,13 +233,13 @@ class Whole:
                     found = found or usr
         return found
 
-    def slot(self, classes: list[str], name: str, types: str) -> str | None:
-        """A method by its name and types, or by its name alone."""
-        named = None
+    def slot(self, classes: list[str], name: str, types: str, is_slot: bool = False) -> str | None:
+        """A method by its name and types, or by its name alone: no signal, where it is named as a slot."""
+        named, sorts = None, ('slot', 'invokable', 'method') if is_slot else ('slot', 'signal', 'invokable', 'method')
         for cls in classes:
             for usr in self.named(cls, name):
                 method = self.methods[usr][1]
-                if method.kind in ('slot', 'signal', 'invokable', 'method'):
+                if method.kind in sorts:
                     if plain(method.shown) == plain(f'{name}({types})'):
                         return usr
                     named = named or usr

@@ -124,8 +124,25 @@ class Wires:
             return f'no such slot: {connect.slot.name or connect.slot.key}'
         pairs = [(s, t) for s in sources for t in targets]
         if connect.is_same:
-            pairs = [(s, t) for s, t in pairs if self.program.role(s[0]) == self.program.role(t[0])] or pairs
+            pairs = [pair for s, t in pairs for pair in self._to_itself(s, t)] or pairs
         return [w for s, t in pairs for w in self._wire(connect, s, t)]
+
+    def _to_itself(self, source: Source, target: Target) -> list[tuple[Source, Target]]:
+        """The ends of a connection of an object to itself: of what a class of the application connects, as in its constructor, each role has
+        both. An override is of the class below."""
+        one, other = source[0], target[0]
+        if not one.kind == other.kind == 'class' or not self.whole.is_inside(one.key) or not self.whole.is_inside(other.key):
+            return [(source, target)] if self.program.role(one) == self.program.role(other) else []
+        cls = next((a for a, b in ((other.key, one.key), (one.key, other.key)) if self.whole.is_a(a, b)), None)
+        return [((role, source[1]), (role, target[1])) for role in (self._apart(cls) if cls is not None else ())]
+
+    def _apart(self, cls: str) -> list[Element]:
+        """The roles of a class and of those below it, where it is known where its own objects are made; else itself."""
+        of, below = self.objects.roles_of, self.whole.below(cls)
+        if not of.get(cls):
+            return [Element('class', cls)]
+        made = {self.program.role(Element('site', key)) for it in below for key in of.get(it, ())}
+        return sorted(made | {Element('class', it) for it in below if not of.get(it)})
 
     def _sources(self, connect: Connect) -> list[Source] | str:
         senders = sorted(self.objects.elements(connect.sender, connect.sender_class))

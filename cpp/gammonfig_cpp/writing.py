@@ -105,7 +105,7 @@ class Writing:
         names, name = self.names, self.names.classes[role]
         whole, above = self.program.whole, names.above[role]
         place = None
-        if role != FREE:
+        if role.kind != FREE.kind:
             place = whole.sites[role.key].place if role.kind == 'site' else whole.classes[role.key].place
         self.size.count('classes')
         self.out(f'class {name}{" : " + names.classes[above[0]] if above else ""} {{', place)

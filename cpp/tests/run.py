@@ -15,7 +15,7 @@ HERE = os.path.dirname(os.path.abspath(__file__))
 # The folders with modules of their own.
 BESIDE = ('dynamic', 'examples', 'large', 'programs', 'qt_table')
 PACKAGES = ('python3-clang', 'libclang1', 'libclang-common-14-dev', 'qt6-base-dev', 'qt6-base-private-dev', 'python3-pytest', 'mypy',
-            'pkg-config')
+            'pkg-config', 'openssl')
 
 
 def python() -> str | None:
@@ -31,7 +31,7 @@ def python() -> str | None:
 def missing() -> list[str]:
     """What isn't there, in words."""
     lacks = [] if python() else ['a Python with clang.cindex and pytest']
-    lacks += [name for name in ('mypy', 'pkg-config') if shutil.which(name) is None]
+    lacks += [name for name in ('mypy', 'pkg-config', 'openssl') if shutil.which(name) is None]
     if not lacks and subprocess.run(['pkg-config', '--exists', 'Qt6Widgets'], check=False).returncode:
         lacks.append('Qt 6')
     return lacks

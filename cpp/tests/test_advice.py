@@ -5,6 +5,9 @@ import pathlib
 import pytest
 from reading import HERE
 from gammonfig_cpp.advice import PHRASES, in_cpp
+from gammonfig_cpp.model import Place
+from gammonfig_cpp.places import Places
+from gammonfig_cpp.report import finding_of
 
 CRATES = pathlib.Path(os.path.dirname(os.path.dirname(HERE))) / 'crates'
 
@@ -23,7 +26,9 @@ def test_the_checker_says_so(phrase: str, said: str) -> None:
 
 
 def test_the_checker_tells_other_values_so(said: str) -> None:
-    for statement in ('by `{written}`: hand `{parameter}` on as it is', 'hands on another value than its own: hand that on as it is'):
+    for statement in ('by `{written}`: hand `{parameter}` on as it is', 'hands on another value than its own: hand that on as it is',
+                      '` has no parameter, and so carries no value: give it the value as its one parameter',
+                      '` has {count} parameters: leave it the one whose value is handed on'):
         assert statement in said
 
 
@@ -43,3 +48,17 @@ def test_the_checker_tells_other_values_so(said: str) -> None:
 ])
 def test_in_words_of_cpp(rule: str, advice: str, told: str) -> None:
     assert in_cpp(rule, advice) == told
+
+
+def test_what_a_library_declares_is_not_to_be_changed() -> None:
+    for words, advice in (('has no parameter, and so carries no value', 'give it the value as its one parameter'),
+                          ('has 3 parameters', 'leave it the one whose value is handed on')):
+        said = f'It isn\'t seen to come to rest: `Axis.setRange(int)` {words}: {advice}. This may be a false alarm'
+        assert in_cpp('cycle', said) == said
+        assert in_cpp('cycle', said, {'Axis.setRange(int)'}) == said.replace(f': {advice}', '')
+    # What is a library's stands at no place of the application.
+    places = Places('/app')
+    places.add(7, 1, Place('/app/a.cpp', 1, 1, 'words'))
+    told = {'rule': 'cycle', 'message': 'm', 'help': said, 'chain': [{'from': 'Axis.setRange(int)', 'to': 'Axis.range', 'line': 7, 'column': 1}]}
+    assert finding_of(told, places).help == said
+    assert finding_of(told, Places('/app')).help == said.replace(f': {advice}', '')

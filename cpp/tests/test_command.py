@@ -242,10 +242,54 @@ def test_a_circle_by_blocked_signals_or_without_its_connection() -> None:
     assert verdict.findings == [], 'and where nothing of it is the application\'s, it isn\'t told'
 
 
+def test_one_finding_for_each_way_of_cpp() -> None:
+    """Of findings that go by the same lines, with objects of other roles, one is told; a circle may begin anywhere on it."""
+    def finding(rule: str, *lines: int, message: str = 'm') -> Finding:
+        return Finding(Spot('a.cpp', lines[0]) if lines else Spot(), rule, 0, message, '', [StepTold(Spot('a.cpp', line), 'a', 'b', 'wire', '') for line in lines])
+
+    verdict = Verdict([finding('cycle', 1, 2), finding('cycle', 2, 1), finding('cycle', 1, 2, 3), finding('destroy-path', 1, 2),
+                       finding('destroy-path', 2, 1), finding('cycle'), finding('cycle'), finding('empty-program')], 0, 0, 3)
+    Warnings([], [], [], set(), set(), [], set(), set(), False).add_to(verdict)
+    told = [(f.rule, f.message, len(f.chain)) for f in verdict.findings]
+    assert told == [('cycle', 'm; 1 more by the same lines', 2), ('cycle', 'm', 3), ('destroy-path', 'm', 2),
+                    ('destroy-path', 'm', 2), ('cycle', 'm', 0), ('cycle', 'm', 0)], 'and that nothing is left to judge is no finding'
+
+
+def test_connections_that_are_left_out_are_said(tmp_path: pathlib.Path) -> None:
+    wrong = [f'connect(m_dial, SIGNAL(lost{at}()), this, SLOT(end()));' for at in range(22)]
+    project(tmp_path, SOURCE.replace('Desk() {', 'Desk() { ' + ' '.join(wrong)))
+    said = run(tmp_path, '-p', '.', '-o', 'out', *TABLE).stderr
+    assert 'left out: a.cpp:12: no such signal: lost0(): `connect(m_dial, SIGNAL(lost0()), this, SLOT(end()))`' in said
+    assert said.count('no such signal') == 20 and 'left out: 2 more connections, which out/app.effects.md has' in said
+
+
+def test_what_a_library_tells_of_the_mouse_comes_by_hand(tmp_path: pathlib.Path) -> None:
+    """A modal dialog keeps the mouse away, so that no second one is opened by it; what else a library tells may come meanwhile."""
+    (tmp_path / 'lib').mkdir()
+    (tmp_path / 'app').mkdir()
+    (tmp_path / 'lib/knob.h').write_text('#include <QtWidgets>\nclass Knob : public QObject {\n    Q_OBJECT\nsignals:\n'
+                                         '    void pressed(QMouseEvent *event);\n    void worn();\n};\n')
+    for signal, told in (('pressed', []), ('worn', ['re-entry'])):
+        project(tmp_path / 'app', f"""#include "../lib/knob.h"
+class Desk : public QWidget {{
+    Q_OBJECT
+public:
+    Desk() {{ connect(m_knob, &Knob::{signal}, this, &Desk::ask); }}
+    void ask() {{ QInputDialog::getText(this, "a", "b"); }}
+private:
+    Knob *m_knob = new Knob;
+}};
+""", 'Qt6Widgets')
+        done = run(tmp_path / 'app', '-p', '.', '-o', signal, *TABLE)
+        assert done.returncode == 0, done.stderr
+        warned = json.loads((tmp_path / 'app' / signal / 'app.warnings.json').read_text())['findings']
+        assert [f['rule'] for f in warned] == told, signal
+
+
 def test_one_finding_for_each_set_of_circles(written: pathlib.Path, tmp_path: pathlib.Path) -> None:
     """Of circles through an event loop in one set of members the shortest is told, with the other steps behind an event loop."""
     def circle(*names: str) -> dict[str, object]:
-        chain = [{'from': a, 'to': b, 'by': 'wire', 'queued': a == names[0], 'message': 's', 'file': 'x', 'line': 1, 'column': 1}
+        chain = [{'from': a, 'to': b, 'by': 'wire', 'queued': a == names[0], 'message': 's', 'file': 'x', 'line': 999, 'column': 1}
                  for a, b in zip(names, [*names[1:], names[0]])]
         return {'rule': 'queued-cycle', 'severity': 'warning', 'message': names[0], 'file': 'x', 'line': 1, 'column': 1, 'chain': chain}
 

@@ -8,8 +8,12 @@ from dataclasses import replace
 import pytest
 
 from reading import flags
+from gammonfig_cpp import instances
+from gammonfig_cpp.context import Context
+from gammonfig_cpp.ending import may_act
 from gammonfig_cpp.facts import read_unit
 from gammonfig_cpp.gather import gather
+from gammonfig_cpp.libclang import Cursor
 from gammonfig_cpp.libraries import kinds_of
 from gammonfig_cpp.model import Facts
 from gammonfig_cpp.precompiled import LEAST, Shared, kept, kind_of, parse
@@ -21,7 +25,9 @@ FLAGS = flags('Qt6Core')
 THING = '''#include <QObject>
 #include <QList>
 #include <algorithm>
+#include <functional>
 #include <memory>
+#include <vector>
 class Thing : public QObject {
     Q_OBJECT
 public:
@@ -53,6 +59,39 @@ LACKING = [
     GO % 'std::for_each(all.begin(), all.end(), [](auto *it) -> void { emit it->fall(); });',
     'struct Visit { template <class T> void operator()(T *it) { emit it->fall(); } };\n' + GO % 'std::for_each(all.begin(), all.end(), Visit());',
 ]
+# Only functions of the library ask for the end of these. What a hold has is a part, whose forms stand in two blocks of a namespace.
+HOLDS = '''extern Thing *theThing;
+struct Name { QString m_first; QList<int> m_more; };
+struct Heavy { ~Heavy(); };
+struct Light { virtual void go(); };
+struct Bound { Heavy m_heavy; };
+namespace inner {
+template <class T, bool isBig> struct Part {
+    union { T m_it; };
+    Part() {}
+    ~Part() {}
+    void end() { m_it.~T(); }
+    void fall() { theThing->fall(); }
+};
+}
+template <class T> struct Falling { ~Falling() { theThing->fall(); } };
+template <class T> struct Late : Heavy { T m_it; };
+namespace inner {
+template <class T> struct Part<T, true> { void end() {} void drop() { theThing->fall(); } };
+template <class T> struct Part<T *, true> { void end() {} void drop() {} };
+}
+template <class T> struct Hold { bool has() const { return true; } ~Hold() { if (has()) m_part.end(); } inner::Part<T, false> m_part; };
+'''
+GIVEN = {'int': False, 'QString': False, 'Name': False, 'QList<Name>': False, 'Qt::Orientation': False, 'Thing *': True, 'Heavy': True,
+         'Light': True, 'Bound': True, 'QList<Bound>': True, 'std::unique_ptr<Thing>': True, 'std::function<void ()>': True}
+BIG = 'inner::Part<T, true> m_part;'
+# What the destructor does and what stands beside it in a template that is given a number, and whether that may act.
+OTHERS = [('', '', False), ('m_part.end();', BIG, False), ('go();', 'void go() { m_part.end(); } ' + BIG, False),
+          ('', 'T *m_it; std::vector<T> m_all;', False), ('theThing->fall();', '', True), ('delete theThing;', '', True),
+          ('delete m_it;', 'T *m_it;', True), ('m_part.drop();', BIG, True), ('m_part.fall();', BIG, True), ('', 'Falling<T> m_falling;', True),
+          ('', 'std::vector<Falling<T>> m_all;', True), ('', 'Late<T> m_late;', True), ('', 'Heavy m_heavy;', True),
+          ('m_call();', 'std::function<void()> m_call;', True), ('new Heavy;', '', True), ('go();', 'void go();', True),
+          ('m_at->drop();', 'inner::Part<T *, true> *m_at;', True)]
 
 
 @functools.cache
@@ -92,6 +131,24 @@ def test_what_only_a_library_asks_for(words: str, tmp_path: pathlib.Path) -> Non
     assert read(words, tmp_path, shared(False)).lacks_bodies
     whole = read(words, tmp_path, shared(True))
     assert not whole.lacks_bodies and any(s.name == 'fall' for f in whole.functions.values() for s in f.statements)
+
+
+def test_the_end_of_values(tmp_path: pathlib.Path, monkeypatch: pytest.MonkeyPatch) -> None:
+    """A destructor matters where it does more than to end its parts, or where these aren't plain values."""
+    found: dict[str, bool] = {}
+
+    def noted(context: Context, instance: Cursor, pattern: Cursor) -> bool:
+        found[instance.type.spelling] = may_act(context, instance, pattern)
+        return False
+
+    monkeypatch.setattr(instances, 'may_act', noted)
+    others = [f'template <class T> struct Other{at} {{ ~Other{at}() {{ {does} }} {beside} }};\n' for at, (does, beside, _) in enumerate(OTHERS)]
+    expected = {f'Hold<{given}>': acts for given, acts in GIVEN.items()} | {f'Other{at}<int>': acts for at, (_, _, acts) in enumerate(OTHERS)}
+    desk = ''.join(f'std::unique_ptr<{name}> m_{at}; ' for at, name in enumerate(expected))
+    ends = ' '.join(f'desk.m_{at}.reset();' for at in range(len(expected)))
+    words = HOLDS + ''.join(others) + f'struct Desk {{ {desk}}};\n' + GO % f'Desk desk; {ends}'
+    assert not read(words, tmp_path, shared(False)).lacks_bodies
+    assert {name: acts for name, acts in found.items() if name in expected} == expected
 
 
 def test_units_are_read_again(tmp_path: pathlib.Path) -> None:

@@ -268,6 +268,21 @@ def test_a_constructor_is_read_for_each_object() -> None:
         assert [w for w in wires if f'-> {bell} ' in w] == [f'wire {cell} poked() -> {bell} ring() auto;']
 
 
+def test_an_array_of_objects_is_a_role() -> None:
+    found = case('roles')
+    assert found.body('pokeFirst') == ['call this.to_Cell_m_cells.poke();']
+    assert 'wire Cell_m_cells poked() -> Rack shake() auto;' in found.wires()
+
+
+def test_what_a_class_connects_to_itself_each_role_connects_to_its_own() -> None:
+    wires = [w for w in case('roles').wires() if 'Echo' in w or 'Double' in w]
+    for role in ('Echo_m_near', 'Echo_m_far'):
+        assert [w for w in wires if w.startswith(f'wire {role} ')] == [f'wire {role} called() -> {role} answer() auto;']
+    assert 'wire Double called() -> Double answer_2() auto;' in wires, 'to what a class below has in its place'
+    assert not any(w.startswith('wire Echo ') for w in wires)
+    assert 'wire Echo called() -> Echo answer() auto;' in case('roles', 'class').wires()
+
+
 def test_a_role_for_each_class_or_place() -> None:
     by_class, by_site = case('roles', 'class'), case('roles', 'site')
     assert by_class.body('pokeLeft') == ['call this.to_Cell.poke();', 'call this.to_Loud.poke_2();']
@@ -296,6 +311,7 @@ def test_switches_and_loops_are_conditions() -> None:
     assert conditions['emit large()'] == ['case `3, default` of `kind`'], 'a case without an end goes on into the next'
     assert conditions['emit each(value)'] == ['in `for (int value : list)`']
     assert conditions['emit counted()'] == ['in `for (int at = 0; at < 3; ++at)`', 'unless `at == 1`']
+    assert conditions['emit walked(value)'] == ['in `Q_FOREACH (int value, list)`', 'unless `value == 2`'], 'a loop that is a macro'
     assert conditions['emit turned()'] == ['in `while (m_is_on)`']
     assert conditions['emit once()'] == ['in `do .. while (m_is_on)`']
     assert conditions['emit either()'] == ['if `m_is_on`']
@@ -367,8 +383,10 @@ def test_of_circles_through_an_event_loop_one_with_blocked_signals_is_told_last(
 
 
 def test_a_pool_runs_what_it_is_handed() -> None:
-    wires = case('threads').wires()
-    assert [w for w in wires if 'posted_' in w and 'run' in w and 'Machine' not in w] == ['wire Driver posted_86() -> Job run() queued;']
+    found = case('threads')
+    assert [w for w in found.wires() if 'posted_' in w and 'run' in w and 'Machine' not in w] == ['wire Driver posted_86() -> Job run() queued;']
+    assert 'wire Driver posted_89() -> Driver lambda_89() queued;' in found.wires()
+    assert {name for name in found.linked.program.silent if 'QThreadPool' in name} == {'QThreadPool::clear'}, 'which runs nothing'
 
 
 def test_bindings() -> None:

@@ -59,6 +59,11 @@ public:
             emit once();
         while (m_is_on);
         m_is_on ? emit either() : emit neither();
+        Q_FOREACH (int value, list) {
+            if (value == 2)
+                continue;
+            emit walked(value);
+        }
     }
 signals:
     void small();
@@ -66,6 +71,7 @@ signals:
     void large();
     void each(int);
     void counted();
+    void walked(int);
     void turned();
     void once();
     void either();

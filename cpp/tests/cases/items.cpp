@@ -87,6 +87,12 @@ public:
         m_desk->setItem(0, 0, m_table->takeItem(0, 0));
         moved->setText("4");
     }
+    void mute() {
+        const QSignalBlocker blocker(m_rules);
+        QListWidgetItem *item = m_rules->item(0), *other = m_feeds->item(0);
+        item->setText("5");
+        other->setText("6");
+    }
 signals:
     void checked();
 private:

@@ -84,3 +84,48 @@ private:
     std::unique_ptr<Bell> m_unique = std::make_unique<Bell>(m_second);
     QList<Bell *> m_unseen { new Bell(m_first) };
 };
+
+class Rack : public QObject {
+    Q_OBJECT
+public:
+    Rack() {
+        for (int at = 0; at < 2; at++) connect(&(m_cells[at]), &Cell::poked, this, &Rack::shake);
+    }
+    void pokeFirst() { m_cells[0].poke(); }
+    void shake() { emit shaken(); }
+signals:
+    void shaken();
+private:
+    Cell m_cells[2];
+};
+
+class Echo : public QObject {
+    Q_OBJECT
+public:
+    Echo() { connect(this, &Echo::called, this, &Echo::answer); }
+    void call() { emit called(); }
+    virtual void answer() { emit answered(); }
+signals:
+    void called();
+    void answered();
+};
+
+class Double : public Echo {
+    Q_OBJECT
+public:
+    void answer() override { emit doubled(); }
+signals:
+    void doubled();
+};
+
+class Valley : public QObject {
+    Q_OBJECT
+public:
+    void callTwice() { m_twice->call(); }
+    void callNear() { m_near->call(); }
+    void callFar() { m_far->call(); }
+private:
+    Echo *m_near = new Echo;
+    Echo *m_far = new Echo;
+    Echo *m_twice = new Double;
+};

@@ -86,6 +86,8 @@ public:
     void again() { QThreadPool::globalInstance()->start(&m_job); }
 public slots:
     void see() { emit seen(); }
+    void both() { QThreadPool::globalInstance()->start([this] { emit seen(); }); }
+    void forget() { QThreadPool::globalInstance()->clear(); }
 signals:
     void seen();
 private:

@@ -234,6 +234,13 @@ void callCore()
     CALL(QApplication, setActiveWindow, QApplication::setActiveWindow(s.window);)
     CALL(QApplication, closeAllWindows, QApplication::closeAllWindows();)
     CALL(QIODevice, write, if (it.isWritable()) it.write("text");)
+    CALL(QIODevice, putChar, if (it.isWritable()) it.putChar('x');)
+    CALL(QIODevice, read, if (it.isReadable()) it.read(3);)
+    CALL(QIODevice, peek, if (it.isReadable()) it.peek(3);)
+    CALL(QIODevice, skip, if (it.isReadable()) it.skip(3);)
+    CALL(QIODevice, getChar, if (it.isReadable()) { char one; it.getChar(&one); })
+    CALL(QIODevice, readLine, if (it.isReadable()) it.readLine(3);)
+    CALL(QIODevice, readAll, if (it.isReadable()) it.readAll();)
 }
 
 }  // namespace

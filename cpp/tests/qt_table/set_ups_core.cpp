@@ -1,5 +1,6 @@
 // Set-ups of QtCore's classes that have no window, and of QtNetwork's: on this machine's own address alone.
 #include "registry.h"
+#include <algorithm>
 
 namespace {
 
@@ -35,6 +36,33 @@ public:
         wait();
     }
     void run() override { exec(); }
+};
+
+// A device that tells what is read of it and written to it.
+class Device : public QIODevice
+{
+public:
+    Device() { open(QIODevice::ReadWrite); }
+    bool isSequential() const override { return true; }
+
+protected:
+    qint64 readData(char *to, qint64 most) override
+    {
+        recorder::called("readData");
+        const qint64 count = qMin(most, m_left);
+        std::fill_n(to, count, 'x');
+        m_left -= count;
+        return count;
+    }
+    qint64 readLineData(char *to, qint64 most) override
+    {
+        recorder::called("readLineData");
+        return QIODevice::readLineData(to, most);
+    }
+    qint64 writeData(const char *, qint64 count) override { recorder::called("writeData"); return count; }
+
+private:
+    qint64 m_left = 100000;
 };
 
 QString command()
@@ -114,6 +142,7 @@ void setUpCore()
     SET_UP(QProcess, "to start", auto *it = new QProcess; it->setProgram(command()); return it;)
     SET_UP(QProcess, "running", auto *it = new QProcess; it->start(command(), {}); it->waitForStarted(2000); return it;)
     SET_UP(QProcess, "with output", auto *it = new QProcess; it->start(command(), {}); it->waitForStarted(2000); it->write("text\n"); return it;)
+    SET_UP(QIODevice, "of its own", return new Device;)
     SET_UP(QBuffer, "open", auto *it = new QBuffer; it->setData("some\ndata"); it->open(QIODevice::ReadWrite); return it;)
     SET_UP(QBuffer, "closed", auto *it = new QBuffer; it->setData("some\ndata"); return it;)
     SET_UP(QTemporaryFile, "open", auto *it = new QTemporaryFile; it->open(); it->write("some"); return it;)

@@ -295,6 +295,8 @@ void setUpItems()
     SET_UP(QItemSelectionModel, "of a table with an open editor", auto *it = s.other(table(s)); auto *item = new SetTableItem;
            it->setItem(0, 0, item); it->show(); it->editItem(item); return it->selectionModel();)
     SET_UP(QStandardItem, "of a model", auto *it = s.filledModel(); return it->item(1, 0);)
+    SET_UP(QStandardItem, "in a header", auto *it = s.filledModel(); it->setHorizontalHeaderItem(0, new QStandardItem("head"));
+           return it->horizontalHeaderItem(0);)
     SET_UP(QStandardItem, "checkable", auto *it = s.filledModel(); it->item(0, 0)->setCheckable(true);
            it->item(0, 0)->setAutoTristate(true); it->item(0, 0)->child(0)->setCheckable(true); return it->item(0, 0)->child(0);)
 }
