@@ -32,8 +32,19 @@ def is_of_qt(event: Event) -> bool:
 
 
 def is_of_program(event: Event, graph: Graph, lines: dict[Called, Line]) -> bool:
-    """Whether a function is one of the application's files: what it brings about has to be read, though it may be that it does nothing."""
-    return isinstance(event, Called) and event in lines and lines[event][0] in graph.files()
+    """Whether a function is one of the application's files: what it brings about has to be read, though it may be that it does nothing.
+    What a constructor that the compiler wrote brings about is a pair of what called it, too."""
+    return isinstance(event, Called) and event in lines and lines[event][0] in graph.files() and not graph.is_unwritten(*lines[event][:2])
+
+
+def is_one(one: Event, other: Event, lines: dict[Called, Line]) -> bool:
+    """Whether two functions of the program are one of C++: a constructor or destructor has several."""
+    return one != other and isinstance(one, Called) and isinstance(other, Called) and one in lines and lines.get(other) == lines[one]
+
+
+def do_the_same(ones: set[Node], others: set[Node], graph: Graph) -> bool:
+    """Whether functions are written with one body: those that call one another are, and none calls another one."""
+    return any(graph.edges.get(one) and graph.edges.get(one) == graph.edges.get(other) for one in ones for other in others)
 
 
 def cover(record: Record, graph: Graph, lines: dict[Called, Line] | None = None) -> Coverage:
@@ -47,9 +58,11 @@ def cover(record: Record, graph: Graph, lines: dict[Called, Line] | None = None)
         outer, inner = pair
         if outer not in reached:
             reached[outer] = graph.reach(known[outer])
+        if is_one(outer, inner, lines or {}) and not reached[outer] & known[inner]:
+            continue
         if is_of_qt(outer) or is_of_qt(inner):
             found.of_qt.append(pair)
-        elif reached[outer] & known[inner]:
+        elif reached[outer] & known[inner] or isinstance(inner, Called) and do_the_same(known[outer], known[inner], graph):
             found.covered.append(pair)
         elif not known[inner] or not known[outer] and not is_of_program(outer, graph, lines or {}):
             found.outside.append(pair)

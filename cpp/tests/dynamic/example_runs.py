@@ -8,6 +8,7 @@ from typing import Any
 TESTS = Path(__file__).resolve().parent.parent
 for name in (".", "dynamic", "examples"):
     sys.path.insert(0, str(TESTS / name))
+from companions import beside
 from coverage import Coverage, Pair, cover
 from functions import Line, lines_of
 from needs import ROOT, Missing, output
@@ -85,7 +86,8 @@ def tried(example: dict[str, Any], folder: Path, spy: Path, steps: int, seeds: i
     ran = Ran(str(example["name"]))
     try:
         sources = Path(example["sources"])
-        made = prepare(sources.parents[ran.name.count("/")], Path(example["build"]).parents[ran.name.count("/")], ran.name, True)
+        all_sources, builds = (path.parents[ran.name.count("/")] for path in (sources, Path(example["build"])))
+        made = prepare(all_sources, builds, ran.name, True)
         if made.reason or not made.programs:
             raise Missing(made.reason or "it has no program")
         shared = roots(example)
@@ -93,8 +95,9 @@ def tried(example: dict[str, Any], folder: Path, spy: Path, steps: int, seeds: i
         whole = Record()
         for program in made.programs:
             for seed in range(seeds):
-                settings = {"SPY_STEPS": str(steps), "SPY_SEED": str(seed)}
-                record = run(spy, program, folder / "runs" / ran.name, settings, 120)
+                home = folder / "runs" / ran.name
+                with beside(ran.name, home, all_sources, builds, spy, seed) as settings:
+                    record = run(spy, program, home, {"SPY_STEPS": str(steps), "SPY_SEED": str(seed), **settings}, 120)
                 if not record.end:
                     raise Missing(f"{program.name} left no record: {record.outcome()}")
                 add(whole, record)

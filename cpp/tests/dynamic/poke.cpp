@@ -35,9 +35,11 @@ QList<QAction *> actionsOf(const QWidgetList &widgets)
 void key(QWidget *to)
 {
     const bool end = number(8) == 0;
-    const int letter = number(26);
-    const int code = end ? int(Qt::Key_Return) : int(Qt::Key_A) + letter;
-    const QString text = end ? QString("\r") : QString(QChar('a' + letter));
+    const auto *line = qobject_cast<QLineEdit *>(to);
+    const bool digits = line && qobject_cast<const QIntValidator *>(line->validator());
+    const int at = number(digits ? 10 : 26);
+    const int code = end ? int(Qt::Key_Return) : int(digits ? Qt::Key_0 : Qt::Key_A) + at;
+    const QString text = end ? QString("\r") : QString(QChar((digits ? '0' : 'a') + at));
     const QPointer<QWidget> kept(to);
     to->setFocus();
     for (QEvent::Type type : {QEvent::KeyPress, QEvent::KeyRelease}) {
@@ -117,6 +119,25 @@ void pokeAt(QWidget *it, bool modal)
     }
 }
 
+// Fields of which it is said what they hold, as the name of a peer in the network.
+void fill(const QWidgetList &widgets)
+{
+    static const QStringList wanted = qEnvironmentVariable("SPY_FILL").split(';', Qt::SkipEmptyParts);
+    for (const QString &one : wanted) {
+        const QString name = one.section('=', 0, 0), value = one.section('=', 1);
+        for (QWidget *it : widgets) {
+            if (it->objectName() != name)
+                continue;
+            if (auto *line = qobject_cast<QLineEdit *>(it); line && line->text() != value)
+                line->setText(value);
+            else if (auto *box = qobject_cast<QSpinBox *>(it))
+                box->setValue(value.toInt());
+            else if (auto *choice = qobject_cast<QComboBox *>(it))
+                choice->setCurrentText(value);
+        }
+    }
+}
+
 }  // namespace
 
 void poke()
@@ -132,6 +153,7 @@ void poke()
     for (QWidget *it : QApplication::allWidgets())
         if (it->isVisible() && it->isEnabled() && (!modal || it->window() == modal))
             widgets << it;
+    fill(widgets);
     const QList<QAction *> actions = modal ? QList<QAction *>() : actionsOf(widgets);
     if (!actions.isEmpty() && number(3) == 0)
         actions.at(number(int(actions.size())))->trigger();

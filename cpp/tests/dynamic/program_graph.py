@@ -41,6 +41,8 @@ class Graph:
     declared: dict[int, Node] = field(default_factory=dict)                       # by the line of the program
     functions: dict[tuple[str, int], set[Node]] = field(default_factory=dict)     # by file and line of C++
     words: dict[tuple[str, int], str] = field(default_factory=dict)               # how each is declared
+    opened: dict[int, str] = field(default_factory=dict)                          # classes by the line of the program
+    standing: dict[tuple[str, int], set[str]] = field(default_factory=dict)       # and by file and line of C++
 
     def chain(self, name: str) -> list[str]:
         found = []
@@ -90,7 +92,17 @@ class Graph:
         for at in range(line, line - MOST_LINES, -1):
             if (file, at) in self.functions and (at == line or name + ("(" if name != "[" else "") in self.words[(file, at)]):
                 return self.functions[(file, at)]
-        return set()
+        return self.ending(file, line) if name.startswith("~") else set()
+
+    def ending(self, file: str, line: int) -> set[Node]:
+        """What stands for the destructor of a class that has none written: the end of what it owns."""
+        named = self.standing.get((file, line), set())
+        return {(it.name, slot) for it in self.classes.values() if named & set(self.chain(it.name))
+                for slot in it.members if re.fullmatch(r"\w+_parts_gone(_\d+)?", slot)}
+
+    def is_unwritten(self, file: str, line: int) -> bool:
+        """Whether a function is a constructor or destructor that the compiler wrote: it tells the line of the class."""
+        return (file, line) in self.standing and (file, line) not in self.functions
 
     def leads_on(self, node: Node) -> bool:
         """Whether a signal has somebody who listens, or a function brings about a signal or a deletion: what leads to nothing need not be
@@ -155,6 +167,7 @@ def parse(text: str) -> Graph:
         opened = CLASS.match(line)
         if opened:
             cls = graph.classes[opened[1]] = Class(opened[1], opened[2] or "")
+            graph.opened[number] = opened[1]
         elif line == "}":
             cls, slot = (cls, "") if slot else (None, "")
         elif cls and slot:
@@ -182,9 +195,11 @@ def read(path: Path, root: Path) -> Graph:
     """The program of a file, and where in C++ its functions stand, by the places beside it, which are relative to the root."""
     graph = parse(path.read_text())
     for words in (it.split("\t") for it in path.with_suffix(".places").read_text().splitlines()):
-        node = graph.declared.get(int(words[0]))
+        node, opened = graph.declared.get(int(words[0])), graph.opened.get(int(words[0]))
+        place = (os.path.realpath(root / words[2]), int(words[3])) if node or opened else ("", 0)
+        if opened:
+            graph.standing.setdefault(place, set()).add(opened)
         if node:
-            place = (os.path.realpath(root / words[2]), int(words[3]))
             graph.functions.setdefault(place, set()).add(node)
             graph.words[place] = words[5]
     return graph

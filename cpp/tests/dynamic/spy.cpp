@@ -6,6 +6,8 @@
 //   SPY_MOST     how often one signal may be emitted (else 20000)
 //   SPY_STEPS    how many pokes are made at the program's widgets, before it is ended; without it there are none
 //   SPY_SECONDS  how long pokes are made at most (else 20)
+//   SPY_WAIT     the milliseconds between them (else 4)
+//   SPY_FILL     what fields hold before each, as `name=value;name=value`, by the names of their objects
 //   SPY_SEED     what the pokes begin from
 #include "poke.h"
 #include <QComboBox>
@@ -111,10 +113,12 @@ void writeOut(const char *end)
 
 // Whether an object is one that Qt made for another of its own, as the buttons of a message box: Qt's name for it says so. What the
 // application put into a viewport or a stack of Qt's isn't. The model and the line edit of a combo box have no names: they are of just
-// these classes.
+// these classes. What a manager of requests does it does in a thread of its own.
 bool isInner(const QObject *it)
 {
     const QMetaObject *own = it->metaObject();
+    if (it->thread() && it->thread()->objectName() == QLatin1String("QNetworkAccessManager thread"))
+        return true;
     if ((own == &QStandardItemModel::staticMetaObject || own == &QLineEdit::staticMetaObject) && qobject_cast<const QComboBox *>(it->parent()))
         return true;
     for (; it; it = it->parent()) {
@@ -224,7 +228,7 @@ void next()
         time.start();
     if (left-- <= 0 || time.hasExpired(setting("SPY_SECONDS", 20) * 1000))
         stop("steps");
-    QTimer::singleShot(4, qApp, next);       // before the poke, since that may run an event loop
+    QTimer::singleShot(int(setting("SPY_WAIT", 4)), qApp, next);       // before the poke, since that may run an event loop
     std::vector<Entry> kept;
     kept.swap(stack);                        // a poke is no part of what runs around it
     poke();

@@ -87,6 +87,39 @@ def test_functions_of_a_run_are_known_by_their_lines(tmp_path: Path) -> None:
     assert found.missed == [(start, set_), (Called("program", 4), moved)], "of a file that was read, and not in the program"
 
 
+ENDING = """class Box {
+    signal shut();
+    slot Box_parts_gone() {
+        emit shut();
+    }
+    slot open() {
+        emit shut();
+    }
+    slot close() {
+        emit shut();
+    }
+}
+class Ear {
+    slot hear() { }
+}
+wire Box shut() -> Ear hear() auto;
+"""
+
+
+def test_functions_that_the_compiler_wrote_and_those_of_one_body(tmp_path: Path) -> None:
+    (tmp_path / "app.gf").write_text(ENDING)
+    places = [(1, "box.h", 5, "class Box"), (6, "box.cpp", 3, "void Box::open()"), (9, "box.cpp", 9, "void Box::close()")]
+    (tmp_path / "app.places").write_text("".join(f"{line}\t5\t{file}\t{at}\t10\t{words}\n" for line, file, at, words in places))
+    graph = read(tmp_path / "app.gf", tmp_path)
+    header, source = str(tmp_path / "box.h"), str(tmp_path / "box.cpp")
+    gone, deleting, made, opened, closed, heard = (Called("program", at) for at in range(6))
+    lines = {gone: (header, 5, "~Box"), deleting: (header, 5, "~Box"), made: (header, 5, "Box"), opened: (source, 3, "open"), closed: (source, 9, "close")}
+    shut = Emitted("Box", "Box", "shut")
+    found = cover(Record(under={(gone, shut): 1, (deleting, gone): 1, (made, shut): 1, (opened, closed): 1, (opened, gone): 1, (shut, heard): 1}), graph, lines)
+    assert found.covered == [(gone, shut), (opened, closed), (opened, gone)], "what owns ends, and functions that do the same"
+    assert found.outside == [(made, shut), (shut, heard)] and not found.missed, "a constructor that isn't written is a part of what calls it"
+
+
 @pytest.mark.parametrize("told, name", [("Window::setValue(int)", "setValue"), ("main", "main"), ("void drop<Apple>(Apple*&)", "drop"),
                                         ("Window::Window(QWidget*)::{lambda()#1}::operator()() const", "["), ("Box<Apple>::cut()", "cut")])
 def test_names_of_functions(told: str, name: str) -> None:
