@@ -4,7 +4,6 @@ from __future__ import annotations
 import json
 import os
 import subprocess
-from collections import Counter
 from dataclasses import dataclass, field
 from typing import Any
 from urllib.parse import quote
@@ -73,33 +72,21 @@ SEVERITIES = ('error', 'warning', 'note')
 BY = {'queued': 'wire', 'direct': 'statement'}
 
 
-# Of a rule that has more findings than these, others are kept out where not all are written.
-CROWDED = 50
-
-
 def judge(program: str, places: Places, wide: bool = False) -> Verdict:
-    """What the checker says of a program, with its places in C++. A `wide` one is over the standard limits. The checker writes a hundred
-    errors: where circles are so many, it is asked for what stands behind them."""
-    told, status = _asked(program, wide, [])
-    found, more = told['findings'], int(told.get('more', 0))
-    counts = Counter(str(f['rule']) for f in found)
-    crowding = sorted(rule for rule, count in counts.items() if count > CROWDED) if more else []
-    if crowding:
-        others, _ = _asked(program, wide, [word for rule in crowding for word in ('--off', rule)])
-        behind = [f for f in others['findings'] if f not in found]
-        found, more = found + behind, max(more - len(behind), 0)
-    findings = sorted((finding_of(f, places) for f in found), key=lambda f: SEVERITIES.index(f.severity))
-    return Verdict(findings, more, int(told.get('accepted', 0)), status)
+    """What the checker says of a program, with its places in C++. A `wide` one is over the standard limits."""
+    told, status = _asked(program, wide)
+    findings = sorted((finding_of(f, places) for f in told['findings']), key=lambda f: SEVERITIES.index(f.severity))
+    return Verdict(findings, int(told.get('more', 0)), int(told.get('accepted', 0)), status)
 
 
-def _asked(program: str, wide: bool, options: list[str]) -> tuple[dict[str, Any], int]:
+def _asked(program: str, wide: bool) -> tuple[dict[str, Any], int]:
     """The checker's answer to a program, and its status."""
     command = checker(os.path.dirname(os.path.abspath(__file__)))
     # The script takes `--wide` behind the word, and the built program in front of it.
     forms = [['verdict', '--wide', '--json'], ['--wide', 'verdict', '--json']] if wide else [['verdict', '--json']]
     for form in forms:
         with open(program, encoding='utf-8') as text:
-            done = subprocess.run(command + form + options, stdin=text, stdout=subprocess.PIPE, stderr=subprocess.PIPE if wide else None,
+            done = subprocess.run(command + form, stdin=text, stdout=subprocess.PIPE, stderr=subprocess.PIPE if wide else None,
                                   text=True, check=False)
         if done.returncode != USAGE:
             break

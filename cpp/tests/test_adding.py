@@ -1,4 +1,4 @@
-"""What the reader makes of the checker's findings: it asks for what stands behind many circles, and adds what it alone finds."""
+"""What the reader makes of the checker's findings: it puts the gravest first, and adds what it alone finds."""
 from __future__ import annotations
 
 import json
@@ -18,29 +18,21 @@ def told(rule: str, severity: str, message: str) -> dict[str, object]:
     return {'rule': rule, 'severity': severity, 'message': message, 'chain': []}
 
 
-def judged(folder: pathlib.Path, monkeypatch: pytest.MonkeyPatch, found: list[dict[str, object]], behind: list[dict[str, object]], more: int) -> Verdict:
-    """The verdict by a program in the place of the checker, which answers otherwise where circles are off."""
+def judged(folder: pathlib.Path, monkeypatch: pytest.MonkeyPatch, found: list[dict[str, object]]) -> Verdict:
+    """The verdict by a program in the place of the checker."""
     path, program = folder / 'checker', folder / 'app.gf'
-    first, second = (json.dumps({'findings': them, 'more': number, 'accepted': 0}) for them, number in ((found, more), (behind, 0)))
-    path.write_text(f"#!/bin/sh\ncat > /dev/null\ncase \"$*\" in *'--off cycle'*) echo '{second}';; *) echo '{first}';; esac\nexit 3\n")
+    path.write_text(f"#!/bin/sh\ncat > /dev/null\necho '{json.dumps({'findings': found, 'more': 0, 'accepted': 0})}'\nexit 3\n")
     path.chmod(path.stat().st_mode | stat.S_IXUSR)
     program.write_text('')
     monkeypatch.setenv('GAMMONFIG', str(path))
     return judge(str(program), Places(str(folder)))
 
 
-def test_deletions_stand_behind_circles(tmp_path: pathlib.Path, monkeypatch: pytest.MonkeyPatch) -> None:
-    circles, note = [told('cycle', 'error', f'circle {n}') for n in range(100)], told('settling-cycle', 'note', 'rests')
-    deletions = [told('destroy-path', 'error', f'deletion {n}') for n in range(3)]
-    verdict = judged(tmp_path, monkeypatch, [*circles, note], [*deletions, note], 9)
-    assert [f.message for f in verdict.findings] == [str(f['message']) for f in (*circles, *deletions, note)], 'the gravest first, each once'
-    assert (verdict.more, verdict.status) == (6, 3), 'six circles are left'
-
-
-def test_a_verdict_that_is_whole_is_asked_for_once(tmp_path: pathlib.Path, monkeypatch: pytest.MonkeyPatch) -> None:
-    circles = [told('cycle', 'error', f'circle {n}') for n in range(100)]
-    verdict = judged(tmp_path, monkeypatch, circles, [told('destroy-path', 'error', 'not asked for')], 0)
-    assert [f.message for f in verdict.findings] == [str(f['message']) for f in circles] and not verdict.more
+def test_the_gravest_come_first(tmp_path: pathlib.Path, monkeypatch: pytest.MonkeyPatch) -> None:
+    note, circle, deletion = told('settling-cycle', 'note', 'rests'), told('cycle', 'error', 'circle'), told('destroy-path', 'error', 'deletion')
+    verdict = judged(tmp_path, monkeypatch, [note, circle, deletion])
+    assert [f.message for f in verdict.findings] == ['circle', 'deletion', 'rests']
+    assert (verdict.more, verdict.status) == (0, 3)
 
 
 def way(rule: str, *names: str) -> dict[str, object]:
@@ -53,7 +45,7 @@ def test_what_the_reader_alone_finds_is_told_beside_the_checkers(tmp_path: pathl
     by_checker = [way('re-entry', 'A.ask()', 'A.posted_1()', 'A.ask()'), way('queued-cycle', 'C.a()', 'C.b()', 'C.a()')]
     by_reader = [way('re-entry', 'T.timeout()', 'A.ask()'), way('re-entry', 'T.timeout()', 'B.ask()'), way('queued-cycle', 'C.b()', 'C.c()', 'C.b()'),
                  way('queued-cycle', 'D.a()', 'D.b()', 'D.a()')]
-    verdict = judged(tmp_path, monkeypatch, by_checker, [], 0)
+    verdict = judged(tmp_path, monkeypatch, by_checker)
     circling = [{'C.a()', 'C.b()', 'C.c()'}, {'D.a()', 'D.b()'}]
     Warnings(by_reader, [], [], set(), set(), circling, set(), set(), False).add_to(verdict)
     assert sorted(f.message for f in verdict.findings) == ['A.ask() A.posted_1() A.ask()', 'C.a() C.b() C.a()', 'D.a() D.b() D.a()', 'T.timeout() B.ask()']

@@ -15,6 +15,7 @@ import random
 import re
 import subprocess
 import sys
+from collections import Counter
 
 sys.dont_write_bytecode = True
 sys.path.insert(0, os.path.dirname(os.path.dirname(os.path.abspath(__file__))))
@@ -181,7 +182,7 @@ def chained(length):
 
 
 def judge_large(bench, count, program):
-    """A chain that is too long, and one that isn't; and more findings than are told."""
+    """A chain that is too long, and one that isn't; and more findings of a rule than are told, which keep no others out."""
     for length, rules in ((256, []), (257, ["chain-too-long"]), (300, ["chain-too-long"])):
         told = json.loads(bench.run(program, ["verdict", "--json"], chained(length)).output)
         count.check([it["rule"] for it in told["findings"]] == rules, lambda: f"a chain of {length}: {told}")
@@ -199,6 +200,10 @@ def judge_large(bench, count, program):
     count.check((len(told["findings"]), told["more"]) == (100, 30), lambda: f"130 wires that don't fit: {told}")
     lines = bench.run(program, ["verdict", "--off", "wire-unused"], many).output.splitlines()
     count.check(lines[-1] == b"100 findings, and 30 more", lambda: f"130 wires that don't fit: {lines[-1]}")
+    crowd = b"\n".join(dense.replace(b"class A", b"class A%d" % it) for it in range(11)) + b"\nclass Z { slot end() { delete this; } }\n"
+    told = json.loads(bench.run(program, ["verdict", "--json"], crowd).output)
+    rules = Counter(it["rule"] for it in told["findings"])
+    count.check(rules == {"cycle": 100, "destroy-path": 1} and told["more"] > 0, lambda: f"110 cycles and a deletion: {rules}, and {told['more']} more")
 
 
 # Of the rules that are about an edge of the programs below, their fingerprints.

@@ -1,26 +1,27 @@
 //! What is found of a program and its certificate.
 
-ghost use Rattle.std.specs.Prelude.{◌≡◌, ◌≢◌, ◌<◌, ◌+◌, ◌-◌, ◌^◌, ◌↔◌, ◌++◌, ◌∷◌, [], Some, None, IfSome, OnOk, length};
+ghost use Rattle.std.specs.Prelude.{◌≡◌, ◌≢◌, ◌<◌, ◌+◌, ◌-◌, ◌^◌, ◌↔◌, ◌++◌, ◌∷◌, [], Some, None, IfSome, OnOk, count_by};
 ghost use Rattle.findings.specs.declared.severity.FindingSeverity.{FindingSeverity};
 ghost use Rattle.findings.specs.declared.severity.FindingSeverity.TheVariants.{Error};
 ghost use Rattle.findings.specs.Listed.{findings_of};
 
 use crate::edge::PlacedEdge;
 use crate::finding::Finding;
+use crate::rule::Rule;
 use crate::severity::FindingSeverity;
 use std::alloc::{AllocError, Global};
 
-/// So many findings of one severity are reported.
+/// So many findings of one rule are reported, so that none keeps those of another one out.
 const MOST_TOLD: usize = 100;
 
 /// What is found of a program and its certificate.
 #[derive(Drop)]
 pub struct Verdict {
-    /// The errors: the first hundred.
+    /// The errors: the first hundred of each rule.
     pub errors: Vec<Finding>,
-    /// The warnings: the first hundred.
+    /// The warnings: the first hundred of each rule.
     pub warnings: Vec<Finding>,
-    /// The notes: the first hundred.
+    /// The notes: the first hundred of each rule.
     pub notes: Vec<Finding>,
     /// How many more errors there are.
     pub more_errors: usize,
@@ -64,12 +65,13 @@ impl Verdict {
         }
     }
 
-    /// The severity of one more finding that is as grave as this, or off, if it is reported: where it isn't, but isn't off, it
-    /// is counted.
-    pub fn taken(&mut self, asked: Option<FindingSeverity>) -> Option<FindingSeverity>
+    /// The severity of one more finding of the rule that is as grave as this, or off, if it is reported: where it isn't, but
+    /// isn't off, it is counted.
+    pub fn taken(&mut self, rule: Rule, asked: Option<FindingSeverity>) -> Option<FindingSeverity>
         ensures same { IfSome result (λ severity. asked ≡ Some severity) }
         ensures told { (severity : FindingSeverity) → asked ≡ Some severity →
-            (result ≡ asked ↔ (length (findings_of severity self.old) < 100)) }
+            (result ≡ asked ↔
+            (count_by (λ finding. ⟦<Rule as PartialEq>⟧.eq finding.rule rule) (findings_of severity self.old) < 100)) }
         ensures counted { asked ≡ Some Error → result ≡ None → self.old.more_errors < 2 ^ 64 - 1 →
             self.new.more_errors ≡ self.old.more_errors + 1 }
         ensures uncounted { asked ≢ Some Error → self.new.more_errors ≡ self.old.more_errors }
@@ -79,7 +81,7 @@ impl Verdict {
         let Some(severity) = asked else {
             return None;
         };
-        if self.findings_of(severity).len() < MOST_TOLD {
+        if self.count_of(rule, severity) < MOST_TOLD {
             return Some(severity);
         }
         match severity {
@@ -92,6 +94,16 @@ impl Verdict {
                 None
             }
         }
+    }
+
+    /// How many findings of the rule are reported with this severity.
+    fn count_of(&self, rule: Rule, severity: FindingSeverity) -> usize
+        ensures { result ≡ count_by (λ finding. ⟦<Rule as PartialEq>⟧.eq finding.rule rule) (findings_of severity self.now) }
+    {
+        self.findings_of(severity)
+            .iter()
+            .filter(|finding| finding.rule == rule)
+            .count()
     }
 
     /// Adds a finding that is reported.

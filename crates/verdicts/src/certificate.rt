@@ -52,7 +52,7 @@ pub fn gather_cause(
 }
 
 fn push(located: Located<'_>, found: &mut Verdict, finding: Finding) -> Result<(), AllocError> {
-    match found.taken(located.levels.of(finding.rule)) {
+    match found.taken(finding.rule, located.levels.of(finding.rule)) {
         Some(severity) => found.push(severity, finding),
         None => Ok(()),
     }

@@ -204,7 +204,7 @@ fn add_remark(
     if is_known {
         return Ok(());
     }
-    match found.taken(levels.of_remark(remark.rule)) {
+    match found.taken(remark.rule, levels.of_remark(remark.rule)) {
         Some(severity) => found.push(severity, remark),
         None => Ok(()),
     }

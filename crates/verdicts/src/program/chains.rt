@@ -20,7 +20,10 @@ pub fn gather_chain(search: ProgramSearch<'_>, found: &mut Verdict) -> Result<()
         }
     }
     if let Some(numbers) = graph.long_chain(cyclic.as_slice(), MOST_BOUND as usize)? {
-        if let Some(severity) = found.taken(search.located.levels.of(Rule::ChainTooLong)) {
+        if let Some(severity) = found.taken(
+            Rule::ChainTooLong,
+            search.located.levels.of(Rule::ChainTooLong),
+        ) {
             let nodes = search.nodes_at(numbers.as_slice())?;
             let finding = chain_finding(search.located, nodes.as_slice())?;
             found.push(severity, finding)?;

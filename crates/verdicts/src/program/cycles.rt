@@ -157,7 +157,10 @@ impl ComponentCycles<'_> {
         for edge in edges {
             if cycles < MOST_CYCLES && !passed.contains(edge) {
                 cycles = cycles.saturating_add(1);
-                let Some(severity) = found.taken(self.search.located.levels.of(Rule::Cycle)) else {
+                let Some(severity) = found.taken(
+                    Rule::Cycle,
+                    self.search.located.levels.of(Rule::Cycle),
+                ) else {
                     return Ok(());
                 };
                 let cycle = self.pass(*edge, &mut passed)?;

@@ -184,7 +184,10 @@ pub fn gather_deletions(
 ) -> Result<(), AllocError> {
     for deletion in deletions {
         if deletion.bodies.count > 0
-            && let Some(severity) = found.taken(located.levels.of(Rule::DestroyPath))
+            && let Some(severity) = found.taken(
+                Rule::DestroyPath,
+                located.levels.of(Rule::DestroyPath),
+            )
         {
             let finding = destroy_path(located, &deletion.bodies)?;
             found.push(severity, finding)?;

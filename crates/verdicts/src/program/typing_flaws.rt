@@ -16,7 +16,10 @@ pub fn gather_wires(located: Located<'_>, found: &mut Verdict) -> Result<(), All
     let meta = located.source.meta;
     for (place, wire) in meta.wires().iter().enumerate() {
         if !is_fit(meta, wire)
-            && let Some(severity) = found.taken(located.levels.of(Rule::WireTypes))
+            && let Some(severity) = found.taken(
+                Rule::WireTypes,
+                located.levels.of(Rule::WireTypes),
+            )
         {
             let text = unfit_text(located.source, place)?;
             let at = located.places.wire(place);
@@ -59,7 +62,7 @@ pub fn gather_types(
 fn gather_type(located: Located<'_>, spot: Spot, found: &mut Verdict) -> Result<(), AllocError> {
     let source = located.source;
     if let Some(flaw) = flaw_at(source.alloc, source.meta, spot)? {
-        if let Some(severity) = found.taken(located.levels.of(Rule::IllTyped)) {
+        if let Some(severity) = found.taken(Rule::IllTyped, located.levels.of(Rule::IllTyped)) {
             let text = flaw_text(source, spot, flaw)?;
             let at = spot_place(located, spot, flaw.statement);
             let finding = finding(located, Rule::IllTyped, text.as_str(), at)?;
