@@ -11,6 +11,7 @@ pub use crate::classes::ImportFault;
 use crate::classes::{BORDER, Catalogue, Choice, Import, MocFile, files};
 pub use crate::effects::LineMistake;
 use crate::effects::{GivenBodies, NumberedLine, added_slots, lines, named_properties};
+use diagnostics::{Printed, did_you_mean};
 use std::alloc::{AllocError, Global};
 pub use summary::Summary;
 
@@ -81,22 +82,49 @@ fn declarations<'f>(
     wanted: ImportOptions<'_>,
 ) -> Result<ImportOutcome, ImportFault> {
     let catalogue = Catalogue::of(alloc, files, wanted.only)?;
-    if !has_all(&catalogue, wanted.only) {
-        return Err(ImportFault::NoClass);
+    for name in wanted.only {
+        if catalogue.number(name).is_none() {
+            return Err(unknown_class(alloc, files, &catalogue, name)?);
+        }
     }
     let choice = choice_of(alloc, &catalogue, lines, wanted.is_lean)?;
     let import = Import::of(alloc, catalogue, &choice)?;
     outcome(alloc, &import, lines)
 }
 
-/// Whether the classes of all these names are there.
-fn has_all(catalogue: &Catalogue<'_>, only: &[&str]) -> bool {
-    for name in only {
-        if catalogue.number(name).is_none() {
-            return false;
+/// That no class of this name is imported.
+fn unknown_class(
+    alloc: Global,
+    files: &[MocFile],
+    catalogue: &Catalogue<'_>,
+    name: &str,
+) -> Result<ImportFault, AllocError> {
+    let shown = Printed(name.as_bytes());
+    if catalogue.is_read(name) {
+        let sentence = format!(in alloc;
+            "the language can't have the class `{shown}`: without `--only`, a comment says why"
+        )?;
+        return Ok(ImportFault::NoClass(sentence));
+    }
+    let mut sentence = format!(in alloc; "`moc` wrote of no class `{shown}` with `Q_OBJECT`")?;
+    let names = object_names(alloc, files)?;
+    if let Some(advice) = did_you_mean(alloc, name.as_bytes(), names.as_slice())? {
+        write!(sentence, ": {advice}")?;
+    }
+    Ok(ImportFault::NoClass(sentence))
+}
+
+/// The names of the objects' classes of the files.
+fn object_names<'f>(alloc: Global, files: &'f [MocFile]) -> Result<Vec<&'f [u8]>, AllocError> {
+    let mut names = Vec::new(alloc);
+    for file in files {
+        for class in file.classes.as_slice() {
+            if class.object {
+                names.push(class.class_name.as_bytes())?;
+            }
         }
     }
-    true
+    Ok(names)
 }
 
 /// Which members are wanted.

@@ -4,7 +4,7 @@ use std::alloc::AllocError;
 use thiserror::Error;
 
 /// Why nothing is imported.
-#[derive(Clone, Copy, Debug, Error)]
+#[derive(Debug, Drop, Error)]
 pub enum ImportFault {
     /// A text isn't what moc writes: its number among the texts, and the line and column where that shows.
     #[error("text {text}, line {line}, column {column}: this isn't what `moc --output-json` writes")]
@@ -25,9 +25,9 @@ pub enum ImportFault {
     /// The text of effects has more lines than a program may have slots.
     #[error("the effects have more than 16384 lines with slots")]
     TooManyLines,
-    /// A class that is asked for isn't among those that are read.
-    #[error("a class that is asked for isn't there")]
-    NoClass,
+    /// A class that is asked for isn't among those that are imported, as this sentence says.
+    #[error("{0}")]
+    NoClass(String),
     /// A growth of memory was refused.
     #[error("out of memory")]
     Memory,
