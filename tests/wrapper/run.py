@@ -195,7 +195,7 @@ class Tests:
         self.check(words + ["app.gf"], 0, self.program(words, LAMP, "qt_tools"))
         self.check(["graph", "--from", "Lamp.none", "app.gf"], 1, "", "gammonfig: the program has no member `Lamp.none`\n")
         self.check(["graph", "--class", "Lmap", "app.gf"], 1, "", "gammonfig: the program has no class `Lmap`: did you mean `Lamp`?\n")
-        self.check(["graph", "loose.gf"], 2, "", "refused with 5")
+        self.check(["graph", "loose.gf"], 2, "", "loose.gf:4:20: error: `{` can't stand here", "gammonfig: the program is refused with 5")
 
     def session(self):
         """So do those of `session`, which tells lines of the script."""

@@ -20,6 +20,9 @@ pub enum ToolFault {
     /// The program is refused, with the number that `gammonfig` gives.
     #[error("the program is refused with {0}: `gammonfig meta` says where")]
     Refused(u8),
+    /// The program is refused with this number, which was explained before.
+    #[error("the program is refused with {0}")]
+    Explained(u8),
     /// The words name a class or a member that the program doesn't have, as this sentence says.
     #[error("{0}")]
     Unknown(String),
@@ -97,6 +100,7 @@ impl ToolFault {
     pub fn status(&self) -> u8 {
         match self {
             ToolFault::Refused(_)
+            | ToolFault::Explained(_)
             | ToolFault::TextRefused(_)
             | ToolFault::Unexpected(_)
             | ToolFault::Unimported(_)

@@ -1,13 +1,13 @@
 //! The word `graph`: what the members of a program's classes may lead to, as a picture.
 
+use crate::answer::explained;
 use crate::fault::ToolFault;
 use crate::parted::places_first;
 use crate::streams::{MOST_READ, input, program, write};
 use class_graph::{GraphFormat, GraphPart, class_graph};
-use class_lang::Limits;
 use diagnostics::read_places;
 use std::alloc::{AllocError, Global};
-use trace_tool::LARGEST_INPUT;
+use trace_tool::{LARGEST_INPUT, limits_of};
 
 /// What the options of `graph` ask for.
 #[derive(Drop)]
@@ -63,10 +63,11 @@ impl<'w> GraphArguments<'w> {
     }
 }
 
-/// Draws the program on standard input, which is read by these limits, as the options say. Its places in another text may stand
-/// before it.
-pub fn graph(rt: &HostRuntime, limits: Limits, words: &[&str]) -> Result<(), ToolFault> {
+/// Draws the program on standard input, which may be a large one with `--wide`, as the options say. Its places in another text
+/// may stand before it.
+pub fn graph(rt: &HostRuntime, is_wide: bool, words: &[&str]) -> Result<(), ToolFault> {
     let alloc = rt.alloc();
+    let limits = limits_of(is_wide);
     let Some(options) = GraphArguments::of(alloc, words)? else {
         return Err(ToolFault::Usage);
     };
@@ -91,6 +92,10 @@ pub fn graph(rt: &HostRuntime, limits: Limits, words: &[&str]) -> Result<(), Too
         classes: options.classes.as_slice(),
         from: options.from,
     };
-    let text = class_graph(alloc, limits, program, part, options.form, told)?;
-    write(rt, text.as_str())
+    match class_graph(alloc, limits, program, part, options.form, told) {
+        Ok(text) => write(rt, text.as_str()),
+        // Lines are told of the whole input, which places stand before.
+        Err(fault) if options.has_places => Err(fault.into()),
+        Err(fault) => Err(explained(rt, is_wide, program, fault.into())?),
+    }
 }

@@ -3,6 +3,7 @@
 #![tactic(auto)]
 
 mod accepted;
+mod answer;
 mod fault;
 mod graph;
 mod import;
@@ -61,12 +62,12 @@ fn do_word(
 ) -> Result<(), ToolFault> {
     let limits = limits_of(is_wide);
     match words {
-        [word, options @ ..] if *word == "graph" => graph(rt, limits, options),
+        [word, options @ ..] if *word == "graph" => graph(rt, is_wide, options),
         [word, options @ ..] if *word == "session" => session(rt, is_wide, options),
         [word, options @ ..] if *word == "verdict" => {
             tell_verdict(rt, limits, options, given.get(1..).unwrap_or(&[]))
         }
-        [word, options @ ..] if *word == "witness" => witness(rt, limits, options),
+        [word, options @ ..] if *word == "witness" => witness(rt, is_wide, options),
         [word, options @ ..] if *word == "import" && !is_wide => import_classes(rt, options),
         [word, options @ ..] if *word == "view" && !is_wide => view(rt, options),
         _ => Err(ToolFault::Usage),

@@ -1,16 +1,13 @@
 //! The word `session`: runs a script as a test.
 
+use crate::answer::ProvedAnswer;
 use crate::fault::ToolFault;
 use crate::parted::split_text;
 use crate::streams::{MOST_READ, input, write, write_bytes};
 use crate::words::WIDE;
-use explained_commands::explained_command;
-use native_slots::Natives;
 use script_tests::{TestFormat, judge, record, report};
 use std::alloc::{AllocError, Global};
-use std::io::Write;
 use texts::{MOST_BYTES, number};
-use trace_tool::Machine;
 
 /// The option that needs no certificate.
 const UNCHECKED: &str = "--unchecked";
@@ -85,29 +82,18 @@ fn trace_of(
     options: &[&str],
     input: &[u8],
 ) -> Result<Vec<u8>, ToolFault> {
-    let alloc = rt.alloc();
-    let words = run_words(alloc, is_wide, options)?;
-    let mut reader = input;
-    let mut output = Vec::new(alloc);
-    let mut said = Vec::new(alloc);
-    let status = explained_command::<Natives, Machine<Natives>, _, _, _>(
-        alloc,
-        words.as_slice(),
-        &mut reader,
-        Natives::of(Vec::new(alloc)),
-        &mut output,
-        &mut said,
-        0,
-    )
-    .status;
+    let words = run_words(rt.alloc(), is_wide, options)?;
+    let answer = ProvedAnswer::of(rt.alloc(), words.as_slice(), input)?;
+    let output = answer.output.as_slice();
+    let status = answer.status;
     let fault = match status {
-        Ok(0 | 4) => return Ok(output),
-        Ok(2) => ToolFault::TextRefused(number_in(b"refused ", output.as_slice())),
-        Ok(3) => ToolFault::Invalid(number_in(b"no ", output.as_slice())),
-        Ok(_) if output.as_slice() == b"usage\n".as_slice() => return Err(ToolFault::Usage),
-        Ok(_) | Err(_) => return Err(ToolFault::Memory),
+        0 | 4 => return Ok(answer.output),
+        2 => ToolFault::TextRefused(number_in(b"refused ", output)),
+        3 => ToolFault::Invalid(number_in(b"no ", output)),
+        _ if output == b"usage\n".as_slice() => return Err(ToolFault::Usage),
+        _ => return Err(ToolFault::Memory),
     };
-    rt.stderr().write_all(said.as_slice()).ok();
+    answer.say(rt);
     Err(fault)
 }
 
