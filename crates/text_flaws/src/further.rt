@@ -1,13 +1,14 @@
-//! What is wrong with a program behind its first flaw: a reader goes on at the next declaration, or in the next line.
+//! What is wrong with a text behind its first flaw: a reader goes on at the next declaration, or in the next line.
 
 use crate::bytes::bad_byte;
+use crate::lines::script_flaw;
 use crate::parts::{plain_tokens, whole};
 use crate::unexpected::{TokenizedText, Unexpected};
 use class_lang::{Limits, TextFault, program_trail, read_within};
 use diagnostics::Flaw;
+use script_lang::{ScriptFault, read_script};
 use std::alloc::{AllocError, Global};
-use texts::{PlaceFault, PlacedToken, Symbol, Token, Word, placed_tokens};
-use token_reading::Trail;
+use texts::{PlaceFault, PlacedToken, Symbol, Token, Word, placed_tokens, split_line};
 
 /// The flaws behind the first one of a program that is refused for the reason of this number, so many at most: of each later
 /// declaration that isn't in the grammar (5) the first token that can't stand where it does; of each later line in which a byte
@@ -23,6 +24,50 @@ pub fn further_program_flaws(
         5 => further_unexpected(alloc, text, most),
         _ => Ok(Vec::new(alloc)),
     }
+}
+
+/// How lines of other texts begin.
+const OTHER_TEXTS: [&[u8]; 5] = [b"class ", b"wire ", b"owns ", b"certificate ", b"settling "];
+
+/// What is wrong with the lines of a script behind this one, counted from 1, so many at most; nothing behind what is of another text.
+pub fn further_script_flaws(
+    alloc: Global,
+    text: &[u8],
+    line: usize,
+    most: usize,
+) -> Result<Vec<Flaw>, AllocError> {
+    let mut flaws = Vec::new(alloc);
+    let mut line = line;
+    for _ in 0..most {
+        let bad = behind_lines(text, line.saturating_sub(1)).trim_ascii_start();
+        if OTHER_TEXTS
+            .iter()
+            .any(|front: &&[u8]| bad.starts_with(*front))
+        {
+            break;
+        }
+        match read_script(alloc, behind_lines(text, line)) {
+            Err(ScriptFault::BadLine(more)) => line = line.saturating_add(more),
+            Err(ScriptFault::Memory) => return Err(AllocError),
+            _ => break,
+        }
+        if let Some(flaw) = script_flaw(alloc, text, line)? {
+            flaws.push(flaw)?;
+        }
+    }
+    Ok(flaws)
+}
+
+/// The text behind its first so many lines.
+fn behind_lines(text: &[u8], lines: usize) -> &[u8] {
+    let mut left = text;
+    for _ in 0..lines {
+        match split_line(left) {
+            Some((_, rest)) => left = rest,
+            None => break,
+        }
+    }
+    left
 }
 
 /// The bytes that begin no token in lines behind the first one that has one.
@@ -71,14 +116,16 @@ fn further_unexpected(alloc: Global, text: &[u8], most: usize) -> Result<Vec<Fla
         if is_read(alloc, text, placed.as_slice().get(begin))? {
             break;
         }
-        let trail = trail_of(alloc, tokens.as_slice().get(begin..).unwrap_or(&[]))?;
+        let left = tokens.as_slice().get(begin..).unwrap_or(&[]);
+        let trail = whole(program_trail(alloc, left))?;
         let source = TokenizedText {
             text,
             tokens: placed.as_slice().get(begin..).unwrap_or(&[]),
         };
         let unexpected = Unexpected::new(source, &trail);
-        // A brace may close what was passed over.
-        if count > 0 && !source.is(unexpected.at, Symbol::CloseBrace) {
+        // A brace that stands in no declaration may close what was passed over.
+        let is_closing = source.is(unexpected.at, Symbol::CloseBrace);
+        if count > 0 && !(is_closing && unexpected.wants_word(Word::Wire)) {
             flaws.push(unexpected.flaw(alloc)?)?;
         }
         match next_declaration(source, unexpected.at) {
@@ -100,11 +147,6 @@ fn is_read(alloc: Global, text: &[u8], token: Option<&PlacedToken>) -> Result<bo
         Err(TextFault::Memory) => Err(AllocError),
         _ => Ok(true),
     }
-}
-
-/// The way of the reader of programs through these tokens.
-fn trail_of(alloc: Global, tokens: &[Token]) -> Result<Trail, AllocError> {
-    whole(program_trail(alloc, tokens))
 }
 
 /// The token, from this one on and behind the first, with which a declaration begins: its word stands first in a line, or behind

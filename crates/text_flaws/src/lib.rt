@@ -11,7 +11,7 @@ mod program;
 mod unexpected;
 
 pub use certificates::{certificate_flaw, settling_flaw};
-pub use further::further_program_flaws;
+pub use further::{further_program_flaws, further_script_flaws};
 pub use limits::script_size_flaw;
 pub use lines::script_flaw;
 pub use program::program_flaw;

@@ -15,8 +15,8 @@ use rank_check::{Denied, No};
 use script_lang::ScriptFault;
 use std::alloc::{AllocError, Global};
 use text_flaws::{
-    certificate_flaw, further_program_flaws, program_flaw, script_flaw, script_size_flaw,
-    settling_flaw,
+    certificate_flaw, further_program_flaws, further_script_flaws, program_flaw, script_flaw,
+    script_size_flaw, settling_flaw,
 };
 use trace_entries::Fault;
 use verdicts::found_errors;
@@ -141,6 +141,9 @@ fn further_flaws(alloc: Global, source: &[u8], refusal: &Refusal) -> Result<Vec<
                 flaws.push(flaw)?;
             }
             Ok(flaws)
+        }
+        Refusal::Script(ScriptFault::BadLine(line)) => {
+            further_script_flaws(alloc, source, *line, most)
         }
         _ => Ok(Vec::new(alloc)),
     }
