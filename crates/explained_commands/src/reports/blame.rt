@@ -1,6 +1,8 @@
 //! Which part of a refused event is wrong, and what may be meant.
 
-use crate::reports::known::{KnownNames, MemberSort, class_names, member_names, spelled};
+use crate::reports::known::{
+    KnownNames, MemberSort, class_names, member_names, push_listed, spelled, taken_types,
+};
 use diagnostics::{Printed, did_you_mean};
 use std::alloc::{AllocError, Global};
 use syntax_trees::Program;
@@ -28,11 +30,19 @@ impl Blame {
             advice: None,
         }
     }
+
+    /// The token of this number, in whose place something else is to be written.
+    fn advised(alloc: Global, token: usize, advice: &str) -> Result<Blame, AllocError> {
+        Ok(Blame {
+            token,
+            advice: Some(String::from_str(alloc, advice)?),
+        })
+    }
 }
 
 /// Whether `blame_of` looks at the program's declarations where an event is refused for this reason.
 pub fn needs_program(reason: u8) -> bool {
-    matches!(reason, 33 | 44 | 46)
+    matches!(reason, 31 | 33 | 44 | 45 | 46)
 }
 
 /// What is wrong with the event of this line and these tokens, which was refused for this reason where this was known.
@@ -51,12 +61,14 @@ pub fn blame_of<'e>(
     };
     match (reason, program) {
         (30 | 43, _) => Ok(Blame::at(1)),
-        (31, _) => event.unknown_object(known),
-        (32, _) => event.first_object(),
+        (31, Some(program)) => event.unknown_object(known, program),
+        (32, _) => event.dead_object(known),
         (33, Some(program)) => event.unknown_class(program),
+        (34, _) => event.unowned(known),
+        (38, _) => event.uncovered(known),
         (42, _) => event.meant(event.loop_token(), known.loop_names()),
         (44, Some(program)) => event.unknown_site(program),
-        (45, _) => Ok(Blame::at(event.value_token())),
+        (45, Some(program)) => event.unfit_value(known, program),
         (46, Some(program)) => event.unknown_member(known, program),
         _ => Ok(Blame::whole()),
     }
@@ -95,60 +107,133 @@ impl<'e> BlamedEvent<'e> {
         })
     }
 
-    /// The first token behind the `)` that closes the first signature.
-    fn behind_signature(&self) -> usize {
-        let before = (0..self.tokens.len())
+    /// The first token behind the next `)` from this one on.
+    fn behind_signature(&self, from: usize) -> usize {
+        let before = (from..self.tokens.len())
             .take_while(|at| self.spelled(*at) != b")".as_slice())
             .count();
-        before.saturating_add(1)
+        from.saturating_add(before).saturating_add(1)
     }
 
-    /// The tokens that may name objects.
+    /// What is written from the one token up to the other.
+    fn part(&self, from: usize, to: usize) -> &'e [u8] {
+        match (self.tokens.get(from), self.tokens.get(to.saturating_sub(1))) {
+            (Some(first), Some(last)) => self.line.get(first.at..last.end).unwrap_or(&[]),
+            _ => &[],
+        }
+    }
+
+    /// The tokens that name objects.
     fn object_tokens(&self) -> Result<Vec<usize>, AllocError> {
         let mut found = Vec::new(self.alloc);
-        let last = self.tokens.len();
-        if self.is(b"connect") || self.is(b"disconnect") {
-            found.push(1)?;
-            found.push(self.behind_signature())?;
-        } else if self.is(b"set") {
-            found.push(1)?;
-            found.push(4)?;
-        } else if self.is(b"emit") || self.is(b"call") {
-            found.push(1)?;
-            for at in 5..last {
+        let receiver = self.behind_signature(0);
+        for at in 1..self.tokens.len() {
+            let is_object = match self.spelled(0) {
+                b"connect" | b"disconnect" => at == 1 || at == receiver,
+                b"set" => at == 1 || at == 4,
+                b"emit" | b"call" => at == 1 || at >= 5,
+                b"bind" => at >= 2,
+                b"adopt" => at <= 2,
+                _ => at == 1,
+            };
+            if is_object && is_name(self.spelled(at)) {
                 found.push(at)?;
             }
-        } else if self.is(b"bind") {
-            for at in 2..last {
-                found.push(at)?;
-            }
-        } else if self.is(b"adopt") {
-            found.push(1)?;
-            found.push(2)?;
-        } else {
-            found.push(1)?;
         }
-        found.retain(|at: &usize| *at < last);
         Ok(found)
     }
 
-    /// The first name of an object.
-    fn first_object(&self) -> Result<Blame, AllocError> {
+    /// The name of the object that is dead, where that is known.
+    fn dead_object(&self, known: &KnownNames<'_>) -> Result<Blame, AllocError> {
         let objects = self.object_tokens()?;
-        Ok(Blame::at(objects.first().copied().unwrap_or(0)))
+        for at in objects.as_slice() {
+            if known.is_deleted(self.spelled(*at)) {
+                return Ok(Blame::at(*at));
+            }
+        }
+        match objects.as_slice() {
+            [only] => Ok(Blame::at(*only)),
+            _ => Ok(Blame::whole()),
+        }
     }
 
     /// The first name of an object that isn't there.
-    fn unknown_object(&self, known: &KnownNames<'_>) -> Result<Blame, AllocError> {
+    fn unknown_object(
+        &self,
+        known: &KnownNames<'_>,
+        program: &Program,
+    ) -> Result<Blame, AllocError> {
         for at in self.object_tokens()? {
             let name = self.spelled(at);
-            let is_name = name.first().is_some_and(|byte| is_name_byte(*byte));
-            if is_name && !is_literal(name) && known.class_of(name).is_none() {
-                let names = known.object_names()?;
-                return self.meant(at, names.as_slice());
+            if known.class_of(name).is_some() {
+                continue;
             }
+            if let Some(word) = literal_for(name) {
+                return Blame::advised(self.alloc, at, word);
+            }
+            let names = known.object_names()?;
+            let blame = self.meant(at, names.as_slice())?;
+            if blame.advice.is_some() {
+                return Ok(blame);
+            }
+            let classes = class_names(self.alloc, program)?;
+            return if self.is_among(at, classes.as_slice()) {
+                Blame::advised(self.alloc, at, "this is a class: an event names an object")
+            } else if at > 2 && self.sort().is_some() {
+                let advice = "a value is a literal or an object, and a text stands between `\"`";
+                Blame::advised(self.alloc, at, advice)
+            } else {
+                Ok(blame)
+            };
         }
         Ok(Blame::whole())
+    }
+
+    /// The parent and its child, and what would let the one own the other.
+    fn unowned(&self, known: &KnownNames<'_>) -> Result<Blame, AllocError> {
+        let (Some(parent), Some(child)) = (
+            known.class_of(self.spelled(1)),
+            known.class_of(self.spelled(2)),
+        ) else {
+            return Ok(Blame::whole());
+        };
+        let (parent, child) = (Printed(parent), Printed(child));
+        let advice = format!(in self.alloc; "declare `owns {parent} {child};` in the program")?;
+        Blame::advised(self.alloc, 0, advice.as_str())
+    }
+
+    /// The connection, and the wire that would cover it, where one can.
+    fn uncovered(&self, known: &KnownNames<'_>) -> Result<Blame, AllocError> {
+        let receiver = self.behind_signature(0);
+        let kind = self.behind_signature(receiver);
+        let (Some(from), Some(to)) = (
+            known.class_of(self.spelled(1)),
+            known.class_of(self.spelled(receiver)),
+        ) else {
+            return Ok(Blame::whole());
+        };
+        if !self.fits(receiver, kind) {
+            return Ok(Blame::whole());
+        }
+        let (from, to) = (Printed(from), Printed(to));
+        let signal = Printed(self.part(2, receiver));
+        let method = Printed(self.part(receiver.saturating_add(1), kind));
+        let kind = Printed(self.spelled(kind));
+        let advice = format!(in self.alloc;
+            "declare `wire {from} {signal} -> {to} {method} {kind};` in the program"
+        )?;
+        Blame::advised(self.alloc, 0, advice.as_str())
+    }
+
+    /// Whether the types of the receiver's method, in front of the kind, are the first ones of the signal.
+    fn fits(&self, receiver: usize, kind: usize) -> bool {
+        let taken = kind.saturating_sub(receiver).saturating_sub(4);
+        let is_same = (0..taken).all(|at: usize| {
+            let given = self.spelled(at.saturating_add(4));
+            given == self.spelled(at.saturating_add(receiver).saturating_add(3))
+        });
+        let behind = self.spelled(taken.saturating_add(4));
+        is_same && (taken == 0 || behind == b",".as_slice() || behind == b")".as_slice())
     }
 
     /// The class that isn't there. In C++ the class stands before the object's name.
@@ -179,16 +264,50 @@ impl<'e> BlamedEvent<'e> {
         }
     }
 
-    /// The binding's name, if no binding has it.
+    /// The binding's name, if no binding has it, else what stands behind it.
     fn unknown_site(&self, program: &Program) -> Result<Blame, AllocError> {
         let mut names = Vec::new(self.alloc);
         for site in program.sites.as_slice() {
+            if site.name.bytes() == self.spelled(1) {
+                let mut classes = String::new(self.alloc);
+                push_listed(&mut classes, site.class.bytes())?;
+                for formal in site.formals.as_slice() {
+                    push_listed(&mut classes, formal.class.bytes())?;
+                }
+                let advice = format!(in self.alloc; "behind its name stand objects of {classes}")?;
+                return Blame::advised(self.alloc, 0, advice.as_str());
+            }
             names.push(site.name.bytes())?;
         }
-        if self.is_among(1, names.as_slice()) {
-            return Ok(Blame::whole());
-        }
         self.meant(1, names.as_slice())
+    }
+
+    /// The value that isn't of its type, and which types are asked.
+    fn unfit_value(&self, known: &KnownNames<'_>, program: &Program) -> Result<Blame, AllocError> {
+        let token = self.value_token();
+        let (Some(sort), Some(class)) = (self.sort(), known.class_of(self.spelled(1))) else {
+            return Ok(Blame::at(token));
+        };
+        let member = self.spelled(3);
+        let count = self.argument_count();
+        let types = taken_types(self.alloc, program, class, sort, member, count)?;
+        if types.is_empty() {
+            return Ok(Blame::at(token));
+        }
+        let member = Printed(member);
+        let advice = format!(in self.alloc; "`{member}` takes {types}")?;
+        Blame::advised(self.alloc, token, advice.as_str())
+    }
+
+    /// How many arguments stand behind the member.
+    fn argument_count(&self) -> usize {
+        if self.spelled(5) == b")".as_slice() {
+            return 0;
+        }
+        let commas = (5..self.tokens.len())
+            .filter(|at: &usize| self.spelled(*at) == b",".as_slice())
+            .count();
+        commas.saturating_add(1)
     }
 
     /// The value that isn't of its type: that of a `set`, or the only argument.
@@ -203,28 +322,32 @@ impl<'e> BlamedEvent<'e> {
         }
     }
 
+    /// The sort of the member that the event names behind an object and a dot, if it names one.
+    fn sort(&self) -> Option<MemberSort> {
+        match self.spelled(0) {
+            b"set" => Some(MemberSort::Property),
+            b"emit" => Some(MemberSort::Signal),
+            b"call" => Some(MemberSort::Slot),
+            _ => None,
+        }
+    }
+
     /// The name of the member that isn't there.
     fn unknown_member(
         &self,
         known: &KnownNames<'_>,
         program: &Program,
     ) -> Result<Blame, AllocError> {
-        if self.is(b"set") {
-            return self.no_member(known, program, 1, 3, MemberSort::Property);
-        }
-        if self.is(b"emit") {
-            return self.no_member(known, program, 1, 3, MemberSort::Signal);
-        }
-        if self.is(b"call") {
-            return self.no_member(known, program, 1, 3, MemberSort::Slot);
+        if let Some(sort) = self.sort() {
+            return self.no_member(known, program, 1, 3, sort);
         }
         let signals = self.members(known, program, 1, MemberSort::Signal)?;
         if self.is_among(2, signals.as_slice()) {
-            let receiver = self.behind_signature();
+            let receiver = self.behind_signature(0);
             let method = receiver.saturating_add(1);
             return self.no_member(known, program, receiver, method, MemberSort::Method);
         }
-        self.meant(2, signals.as_slice())
+        self.no_member(known, program, 1, 2, MemberSort::Signal)
     }
 
     /// The names of the members that the object has which the token names.
@@ -253,21 +376,39 @@ impl<'e> BlamedEvent<'e> {
         let names = self.members(known, program, object, sort)?;
         if self.is_among(member, names.as_slice()) {
             let advice = "it is declared with another number of parameters, or with other types";
-            return Ok(Blame {
-                token: member,
-                advice: Some(String::from_str(self.alloc, advice)?),
-            });
+            return Blame::advised(self.alloc, member, advice);
+        }
+        for (other, advice) in [
+            (
+                MemberSort::Property,
+                "this is a property, which `set` writes",
+            ),
+            (MemberSort::Signal, "this is a signal, which `emit` emits"),
+            (MemberSort::Slot, "this is a slot, which `call` calls"),
+        ] {
+            let others = self.members(known, program, object, other)?;
+            if self.is_among(member, others.as_slice()) {
+                return Blame::advised(self.alloc, member, advice);
+            }
         }
         self.meant(member, names.as_slice())
     }
 }
 
-/// Whether a name may begin with the byte.
-fn is_name_byte(byte: u8) -> bool {
-    byte.is_ascii_alphabetic() || byte == b'_'
+/// Whether a token that is spelled so names something.
+fn is_name(word: &[u8]) -> bool {
+    let begins = word
+        .first()
+        .is_some_and(|byte| byte.is_ascii_alphabetic() || *byte == b'_');
+    begins && !matches!(word, b"true" | b"false" | b"null")
 }
 
-/// Whether it is a literal that is a word.
-fn is_literal(word: &[u8]) -> bool {
-    word == b"true".as_slice() || word == b"false".as_slice() || word == b"null".as_slice()
+/// What to write in place of a word that is a literal elsewhere.
+fn literal_for(word: &[u8]) -> Option<&'static str> {
+    match word {
+        b"nullptr" | b"NULL" | b"None" => Some("write `null`"),
+        b"True" | b"TRUE" => Some("write `true`"),
+        b"False" | b"FALSE" => Some("write `false`"),
+        _ => None,
+    }
 }

@@ -1,8 +1,9 @@
 //! What a run has made by an event, and what its program declares, by names.
 
 use crate::placed::tokens_of;
+use diagnostics::Printed;
 use std::alloc::{AllocError, Global};
-use syntax_trees::{Class, Program};
+use syntax_trees::{Class, Parameter, Program};
 use texts::PlacedToken;
 
 /// The event loop that is there from the beginning.
@@ -20,6 +21,7 @@ struct MadeObject<'a> {
 pub struct KnownNames<'a> {
     alloc: Global,
     objects: Vec<MadeObject<'a>>,
+    deleted: Vec<&'a [u8]>,
     loops: Vec<&'a [u8]>,
 }
 
@@ -39,14 +41,16 @@ impl<'a> KnownNames<'a> {
         Ok(KnownNames {
             alloc,
             objects: Vec::new(alloc),
+            deleted: Vec::new(alloc),
             loops,
         })
     }
 
-    /// Takes what the event of this line made, which was accepted.
+    /// Takes what the event of this line made or deleted, which was accepted.
     pub fn take(&mut self, line: &'a [u8]) -> Result<(), AllocError> {
         let front = line.trim_ascii_start();
-        if !front.starts_with(b"new") && !front.starts_with(b"loop") {
+        let verbs: [&[u8]; 3] = [b"new", b"loop", b"delete"];
+        if !verbs.iter().any(|verb: &&[u8]| front.starts_with(*verb)) {
             return Ok(());
         }
         let tokens = tokens_of(self.alloc, line)?;
@@ -59,6 +63,8 @@ impl<'a> KnownNames<'a> {
             })?;
         } else if verb == b"loop".as_slice() {
             self.loops.push(spelled(line, tokens, 1))?;
+        } else if verb == b"delete".as_slice() {
+            self.deleted.push(spelled(line, tokens, 1))?;
         }
         Ok(())
     }
@@ -67,6 +73,11 @@ impl<'a> KnownNames<'a> {
     pub fn class_of(&self, name: &[u8]) -> Option<&'a [u8]> {
         let found = self.objects.iter().find(|object| object.name == name)?;
         Some(found.class)
+    }
+
+    /// Whether an event deleted the object.
+    pub fn is_deleted(&self, name: &[u8]) -> bool {
+        self.deleted.iter().any(|deleted: &&[u8]| *deleted == name)
     }
 
     /// The objects.
@@ -114,6 +125,86 @@ pub fn class_names(alloc: Global, program: &Program) -> Result<Vec<&[u8]>, Alloc
     Ok(names)
 }
 
+/// The class of this name, and those above it.
+fn lineage<'p>(
+    alloc: Global,
+    program: &'p Program,
+    class: &[u8],
+) -> Result<Vec<&'p Class>, AllocError> {
+    let mut found = Vec::new(alloc);
+    let mut next = class_named(program, class);
+    // A base stands before its class, so there are no more.
+    for _ in program.classes.as_slice() {
+        let Some(class) = next else {
+            break;
+        };
+        found.push(class)?;
+        next = match &class.base {
+            Some(base) => class_named(program, base.bytes()),
+            None => None,
+        };
+    }
+    Ok(found)
+}
+
+/// The types that a member of this sort and name takes, which has so many parameters; nothing where objects of the class have none.
+pub fn taken_types(
+    alloc: Global,
+    program: &Program,
+    class: &[u8],
+    sort: MemberSort,
+    name: &[u8],
+    count: usize,
+) -> Result<String, AllocError> {
+    let mut text = String::new(alloc);
+    for class in lineage(alloc, program, class)? {
+        for property in class.properties.as_slice() {
+            if sort == MemberSort::Property && property.name.bytes() == name {
+                let kind = property.kind.text(alloc)?;
+                push_listed(&mut text, kind.as_slice())?;
+            }
+        }
+        for signal in class.signals.as_slice() {
+            let parameters = signal.parameters.as_slice();
+            if sort == MemberSort::Signal
+                && signal.name.bytes() == name
+                && parameters.len() == count
+            {
+                push_types(&mut text, alloc, parameters)?;
+            }
+        }
+        for slot in class.slots.as_slice() {
+            let parameters = slot.parameters.as_slice();
+            if sort == MemberSort::Slot && slot.name.bytes() == name && parameters.len() == count {
+                push_types(&mut text, alloc, parameters)?;
+            }
+        }
+    }
+    Ok(text)
+}
+
+/// Adds the parameters' types.
+fn push_types(
+    text: &mut String,
+    alloc: Global,
+    parameters: &[Parameter],
+) -> Result<(), AllocError> {
+    for parameter in parameters {
+        let kind = parameter.kind.text(alloc)?;
+        push_listed(text, kind.as_slice())?;
+    }
+    Ok(())
+}
+
+/// Adds one more to the words of a list.
+pub fn push_listed(text: &mut String, word: &[u8]) -> Result<(), AllocError> {
+    if !text.is_empty() {
+        text.push_str(", ")?;
+    }
+    let word = Printed(word);
+    write!(text, "`{word}`")
+}
+
 /// The names of the members of this sort that objects of the class have.
 pub fn member_names<'p>(
     alloc: Global,
@@ -122,17 +213,8 @@ pub fn member_names<'p>(
     sort: MemberSort,
 ) -> Result<Vec<&'p [u8]>, AllocError> {
     let mut names = Vec::new(alloc);
-    let mut next = class_named(program, class);
-    // A base stands before its class, so there are no more.
-    for _ in program.classes.as_slice() {
-        let Some(class) = next else {
-            break;
-        };
+    for class in lineage(alloc, program, class)? {
         add_members(&mut names, class, sort)?;
-        next = match &class.base {
-            Some(base) => class_named(program, base.bytes()),
-            None => None,
-        };
     }
     match sort {
         MemberSort::Property => names.push(b"objectName".as_slice())?,
