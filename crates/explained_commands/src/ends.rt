@@ -6,10 +6,12 @@ ghost use Rattle.explained_commands.specs.Refused.{HasRefused};
 ghost use Rattle.trace_tool.specs.Commands.{WritesCommand};
 
 use crate::explain::explanation;
+use crate::explanations::push_untyped;
 use crate::remarks::{is_judged, may_run, remarks_on};
 use crate::reports::{fault_report, has_refused, has_unexpected, refusal_report};
 use std::alloc::{AllocError, Global};
 use std::io::{Read, Write};
+use trace_entries::Fault;
 use trace_tool::{
     Answered, Entry, FittingNatives, InputFault, ObjectMachine, Outcome, Ran, WriteFault, answer,
 };
@@ -195,7 +197,11 @@ fn report_on_fault<M: ObjectMachine>(
         return Ok(None);
     };
     let is_settling = words.contains(&"--settling");
-    Ok(Some(fault_report(alloc, input, ran.trace(), last, fault, is_settling)?))
+    let mut text = fault_report(alloc, input, ran.trace(), last, fault, is_settling)?;
+    if let (Fault::BadType, Some(input)) = (fault, input) {
+        push_untyped(&mut text, alloc, input, ran.machine.meta())?;
+    }
+    Ok(Some(text))
 }
 
 /// Writes a text, if there is one.

@@ -3,5 +3,5 @@
 mod explain;
 mod usage;
 
-pub use explain::{Asked, push_fault, push_outcome};
+pub use explain::{Asked, push_fault, push_outcome, push_untyped};
 pub use usage::push_usage;

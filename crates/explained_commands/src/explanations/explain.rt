@@ -4,7 +4,7 @@ use crate::placed::PlacedText;
 use class_lang::Limits;
 use diagnostics::{Flaw, Severity, TextKind, meaning};
 use effect_scan::{Member, Node};
-use findings::{FileNames, FindingSeverity, push_finding};
+use findings::{FileNames, Finding, FindingSeverity, Rule, Verdict, push_finding};
 use meta_model::Meta;
 use program_commands::{Outcome, Refusal, SettlingOutcome, Why};
 use program_flaws::{
@@ -247,10 +247,42 @@ fn push_errors(
         None => None,
     };
     let found = found_errors(alloc, program.source(), meta, judged)?;
+    push_found(text, alloc, &found, certificate.lines_before())
+}
+
+/// Adds what isn't typed in the input's program, which loads as this: where a run has a value of a wrong type it comes from there.
+pub fn push_untyped(
+    text: &mut String,
+    alloc: Global,
+    input: &[u8],
+    meta: &Meta,
+) -> Result<(), AllocError> {
+    let program = PlacedText::of(alloc, input, TextKind::Program)?;
+    let mut found = found_errors(alloc, program.source(), meta, None)?;
+    found
+        .errors
+        .retain(|finding: &Finding| is_of_types(finding.rule));
+    found.more_errors = 0;
+    text.push_str("what isn't typed in the program, as `certify` says without a run:\n")?;
+    push_found(text, alloc, &found, 0)
+}
+
+/// Whether the rule is about the types of values.
+fn is_of_types(rule: Rule) -> bool {
+    matches!(rule, Rule::WireTypes | Rule::IllTyped)
+}
+
+/// Adds the first errors, where so many lines stand in front of the certificate, and how many more there are.
+fn push_found(
+    text: &mut String,
+    alloc: Global,
+    found: &Verdict,
+    certificate_lines: usize,
+) -> Result<(), AllocError> {
     let names = FileNames {
         program: INPUT,
         certificate: INPUT,
-        certificate_lines: certificate.lines_before(),
+        certificate_lines,
         places: None,
     };
     for finding in found.errors.iter().take(MOST_TOLD) {

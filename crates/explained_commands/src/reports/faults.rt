@@ -144,9 +144,6 @@ fn advice(fault: Fault, is_settling: bool) -> Option<&'static str> {
         Fault::TooDeep if is_settling => Some(
             "at most 256 activations nest: with a settling certificate that is enough where its bound, and its step for each object, are no more; a `queued` wire on the circle, or fewer objects, need less",
         ),
-        Fault::BadType => Some(
-            "`certify` says without a run which literal, body or binding gives a value where another type is asked",
-        ),
         Fault::TooDeep => Some(
             "`certify` finds such chains without a run, and names one that has no end; a `queued` wire in the place of a direct one breaks it; `run --unchecked N` lets N activations nest, at most 256",
         ),
@@ -158,6 +155,6 @@ fn advice(fault: Fault, is_settling: bool) -> Option<&'static str> {
         ),
         Fault::Steps => Some("`--steps M` gives the run M steps; without it a run has 1000000"),
         Fault::Memory => Some("a smaller script, or objects that are deleted, need less memory"),
-        Fault::Stopped => None,
+        Fault::BadType | Fault::Stopped => None,
     }
 }
