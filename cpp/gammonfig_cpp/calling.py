@@ -138,8 +138,9 @@ class Calling:
         cls, name, steps, told, names = self.objects.cls(element), str(key[3]), [], set(), set()
         for one in written:
             usr = self.whole.signal(cls, one.notify)
+            compares = one.notify not in entry.again
             # A property that a class declares again, with another signal, is set once.
-            step = self._write(one, usr, parameters, one.name not in names) if usr is not None else None
+            step = self._write(one, usr, parameters, compares and one.name not in names) if usr is not None else None
             if step is not None and one.notify not in told:
                 told.add(one.notify)
                 names.add(one.name)

@@ -19,7 +19,7 @@ KNOWN = TAKING | {'addAction', 'setParent', 'setObjectName', 'setAttribute', 'ca
 # Functions that give what Qt made in an object, one in each.
 GIVING = ('selectionModel', 'lineEdit', 'model')
 LINE = re.compile(r'(\w+)\.(~?\w+)\s+(.+)$')
-CLAUSES = ('emits', 'inside', 'rarely', 'calls', 'posts', 'deletes', 'later', 'owns', 'lays', 'owner', 'takes', 'needs')
+CLAUSES = ('emits', 'inside', 'rarely', 'again', 'calls', 'posts', 'deletes', 'later', 'owns', 'lays', 'owner', 'takes', 'needs')
 WIRE = re.compile(r'wire\s+(\w+)\.(\w+)\s*->\s*(\w+)\.(\w+)(?:\s+by\s+(\w+))?(\s+once)?$')
 # What stands for a class: what a delegate makes to edit an item with.
 EDITOR = 'editor'
@@ -38,10 +38,11 @@ class QtWire(NamedTuple):
 
 @dataclass
 class Entry:
-    """What one function does: names of signals, of those of objects in this one, of virtual functions, of what is posted, of what is
+    """What one function does: names of signals, of those that tell an equal value again, of those of objects in this one, of virtual functions, of what is posted, of what is
     deleted at once or later, the arguments that it owns, those that the widget owns around which a layout lies, the argument that becomes
     its own owner, what it gives away; and whether it runs an event loop. A name with `C::` before it is of any object of the class C."""
     emits: list[str] = field(default_factory=list)
+    again: list[str] = field(default_factory=list)
     inside: list[str] = field(default_factory=list)
     calls: list[str] = field(default_factory=list)
     posts: list[str] = field(default_factory=list)

@@ -4,7 +4,7 @@ from dataclasses import dataclass, field
 from pathlib import Path
 from typing import NamedTuple
 
-CLAUSES = ["emits", "inside", "rarely", "calls", "posts", "deletes", "later", "owns", "lays", "owner", "takes", "needs"]
+CLAUSES = ["emits", "inside", "rarely", "again", "calls", "posts", "deletes", "later", "owns", "lays", "owner", "takes", "needs"]
 BARE = ["modal", "silent"]
 # What stands for a class: what a delegate makes to edit an item with.
 EDITOR = "editor"
@@ -81,6 +81,9 @@ def parse_clauses(line: Line, rest: str, number: int) -> None:
             raise BadTable(f"qt.effects:{number}: `{word}` can't stand there")
     if after_comma and clause:
         raise BadTable(f"qt.effects:{number}: `{clause}` without names")
+    if "again" in line.clauses:
+        # What comes again comes, too.
+        line.clauses.setdefault("emits", []).extend(line.clauses["again"])
 
 
 def parse(text: str) -> Table:
