@@ -10,6 +10,7 @@ from .implicit import Implicit
 from .libclang import (FUNCTIONS, NAMES, RECORDS, TEMPLATES, VARIABLES, Cursor, K, T, bare, cindex, expressions, is_of_closure, is_pattern,
                        quick, strip)
 from .model import Function, Value
+from .possessing import returned
 from .templates import has_types
 
 # What Q_OBJECT declares and defines.
@@ -118,6 +119,8 @@ class Bodies:
                             context.classes.parameters(formals))
         context.facts.functions[key] = function
         context.declare('R:' + key, cursor.result_type)
+        if cls and not formals and (member := returned(cursor)) is not None and member.kind == K.MEMBER_REF_EXPR and member.referenced is not None:
+            context.facts.getters[key] = str(member.referenced.get_usr())
         self.declare_parameters(key, formals)
         with context.as_instance(cursor, key):
             self._read(function, cursor)

@@ -141,6 +141,8 @@ class Calling:
             compares = one.notify not in entry.again
             # A property that a class declares again, with another signal, is set once.
             step = self._write(one, usr, parameters, compares and one.name not in names) if usr is not None else None
+            if step is not None and usr is not None and not compares and len(parameters) == 1:
+                step.held = ('property', self.whole.class_of(usr), one.name)
             if step is not None and one.notify not in told:
                 told.add(one.notify)
                 names.add(one.name)

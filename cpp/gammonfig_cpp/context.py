@@ -149,10 +149,12 @@ class Context:
             self.facts.flows.append((key, value))
 
     def site(self, key: str, cursor: Cursor, cls: str, hint: str = '') -> Value:
-        """A place where an object is made."""
+        """A place where an object is made: of a member that is one no function makes it, wherever it is named first."""
         if key not in self.facts.sites:
             within, function = self.outer, self.function.key if self.function is not None else ''
-            if self.function is not None:
+            if cursor.kind == K.FIELD_DECL:
+                within, function = str(cursor.semantic_parent.canonical.get_usr()), ''
+            elif self.function is not None:
                 within = self.function.cls or function
             self.facts.sites[key] = Site(cls, self.place(cursor), hint or self.hint, within, function)
         return Value('site', key, cls)

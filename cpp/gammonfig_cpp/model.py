@@ -38,10 +38,12 @@ SHARED_LATER, SHARED_ONCE = 'D:later', 'D:once'
 
 
 class Term(NamedTuple):
-    """A value that is handed on: a parameter of the function, unchanged, a number, a text; or `unknown`."""
+    """A value that is handed on: a `parameter` of the function, unchanged, a `number`, a `text`, what is `asked` of the object `on` by the
+    function `text`; or `unknown`."""
     kind: str
     index: int = 0  # type: ignore[assignment] # it hides tuple's own function
     text: str = ''
+    on: Value = NONE
 
 
 UNKNOWN = Term('unknown')
@@ -228,6 +230,8 @@ class Facts:
     functions: dict[str, Function] = field(default_factory=dict)
     sites: dict[str, Site] = field(default_factory=dict)
     fields: dict[str, Field] = field(default_factory=dict)
+    # By a function that does no more than return a member, that member.
+    getters: dict[str, str] = field(default_factory=dict)
     flows: list[tuple[str, Value]] = field(default_factory=list)
     # By a variable or result the class that all it holds is of, or below.
     declared: dict[str, str] = field(default_factory=dict)

@@ -57,16 +57,16 @@ class Possessing:
             return given[0]
         on = self.context.calls.object_of(call)
         if self.context.is_inside(called):
-            return self._returned(called) if self._is_this(on) and not called.is_virtual_method() else None
+            definition = called.get_definition() if self._is_this(on) and not called.is_virtual_method() else None
+            return returned(definition) if definition is not None else None
         return on
 
-    @staticmethod
-    def _returned(called: Cursor) -> Cursor | None:
-        """The member that a function returns, if that is all it does."""
-        definition = called.get_definition()
-        bodies = [k for k in definition.get_children() if k.kind == K.COMPOUND_STMT] if definition is not None else []
-        statements = list(bodies[0].get_children()) if bodies else []
-        if len(statements) != 1 or statements[0].kind != K.RETURN_STMT:
-            return None
-        found = expressions(statements[0])
-        return bare(found[0]) if found else None
+
+def returned(definition: Cursor) -> Cursor | None:
+    """What a function returns, if that is all it does."""
+    bodies = [k for k in definition.get_children() if k.kind == K.COMPOUND_STMT]
+    statements = list(bodies[0].get_children()) if bodies else []
+    if len(statements) != 1 or statements[0].kind != K.RETURN_STMT:
+        return None
+    found = expressions(statements[0])
+    return bare(found[0]) if found else None

@@ -17,7 +17,8 @@ MOST_PARAMETERS = 8
 
 @dataclass(slots=True)
 class Step:
-    """A statement: `emit`, `call`, `set` or `delete`, on `this` where `on` is None. `is_own`: what is deleted is owned by this object."""
+    """A statement: `emit`, `call`, `set` or `delete`, on `this` where `on` is None. `is_own`: what is deleted is owned by this object.
+    `held`: the property that has been given the parameter 0 where this is emitted."""
     kind: str
     member: Key
     on: Element | None = None
@@ -26,6 +27,7 @@ class Step:
     conditions: tuple[Condition, ...] = ()
     words: str = ''
     is_own: bool = False
+    held: Key | None = None
 
     def same(self) -> tuple[object, ...]:
         """What makes two steps one: where it stands plays no part."""

@@ -3,14 +3,21 @@
 This is told beside a finding, and isn't proved: it holds where the setters that were read as properties really compare."""
 from __future__ import annotations
 
+import re
+
 from .graph import Graph, Node
 from .graphs import components
-from .program import Member, Program, Step
+from .model import Term
+from .program import Key, Member, Program, Step
+
+# In the place of a parameter's number: the value is what the property holds that was set last.
+HELD = -1
 
 
 class Settling:
     def __init__(self, program: Program, graph: Graph) -> None:
         self.program, self.graph = program, graph
+        self._asked: dict[str, Key | None] = {}
 
     def sets(self) -> list[list[str]]:
         """The members of each set that settles, by their names."""
@@ -29,35 +36,69 @@ class Settling:
         return self.program.members[node[1]]
 
     def _hands_on(self, members: set[Node], kept: set[Node]) -> bool:
-        """Whether each way inside hands on the value that a property was given."""
-        carried: dict[Node, int] = {n: 0 for n in kept}
+        """Whether each way inside hands on the value that a property was given, or asks that property for it."""
+        carried = {n: 0 for n in kept}
+        # By a member the properties that may have been set last.
+        last = {n: {n} for n in kept}
         todo = list(kept)
         while todo:
             node = todo.pop()
             for other in self.graph.edges[node]:
                 if other not in members:
                     continue
-                place = self._place(node, other, carried[node])
+                place, held = self._place(node, other, carried[node], last[node])
                 if place is None or carried.get(other, place) != place:
                     return False
-                if other not in carried:
+                if other not in kept and (other not in carried or not held <= last[other]):
                     carried[other] = place
+                    last.setdefault(other, set()).update(held)
                     todo.append(other)
         return len(carried) == len(members)
 
-    def _place(self, node: Node, other: Node, index: int) -> int | None:
-        """The parameter of `other` to which the value goes, where all ways from `node` hand it on to one."""
+    def _place(self, node: Node, other: Node, index: int, last: set[Node]) -> tuple[int | None, set[Node]]:
+        """The parameter of `other` to which the value goes, where all ways from `node` hand it on to one, or `HELD` where none does; and the
+        properties that may have been set last there."""
         member, target = self._member(node), self._member(other)
         if member.kind == 'property':
-            return 0 if len(target.parameters) == 1 else None
+            return {0: HELD, 1: 0}.get(len(target.parameters)), last
         if member.kind == 'signal':
-            return index if index < len(target.parameters) else None
-        places = {self._argument(s, index, target) for s in member.steps if s.member == other[1]}
-        return places.pop() if len(places) == 1 else None
+            return index if index < len(target.parameters) else HELD, last
+        steps = [s for s in member.steps if s.member == other[1]]
+        places = {self._argument(s, node, index, last) for s in steps}
+        place = places.pop() if len(places) == 1 else None
+        if index == 0 and len(steps) == 1 and steps[0].held is not None:
+            return place, {(node[0], steps[0].held)}
+        return (None if place == HELD and target.kind == 'property' else place), last
 
-    @staticmethod
-    def _argument(step: Step, index: int, target: Member) -> int | None:
-        for at, term in enumerate(step.terms[:len(target.parameters)]):
-            if term.kind == 'parameter' and term.index == index:
+    def _argument(self, step: Step, node: Node, index: int, last: set[Node]) -> int:
+        for at, term in enumerate(step.terms[:len(self.program.members[step.member].parameters)]):
+            if term.kind == 'parameter' and term.index == index or term.kind == 'asked' and self._gives(term, node) == last:
                 return at
+        return HELD
+
+    # Functions that give the value of a property
+
+    def _gives(self, term: Term, node: Node) -> set[Node]:
+        """The properties of which a function of an object may give the value, for a member that asks it."""
+        if term.text not in self._asked:
+            self._asked[term.text] = self._property(term.text)
+        key, objects = self._asked[term.text], self.program.objects
+        if key is None:
+            return set()
+        if term.on.kind == 'this':
+            return {(node[0], key)}
+        roles = {objects.role(e) for e in objects.elements(term.on, self.program.whole.class_of(term.text))}
+        return {(role, key) for one in roles for role in self.graph.roles(one)}
+
+    def _property(self, usr: str) -> Key | None:
+        """The property whose value a function gives: the member that it returns, or the one whose READ function it is."""
+        whole = self.program.whole
+        if usr in whole.getters:
+            return 'property', whole.getters[usr]
+        cls, method = whole.methods.get(usr, ('', None))
+        for text in whole.classes[cls].properties if method is not None else ():
+            found = re.match(rf'.*?(\w+)\s+READ\s+{re.escape(method.name)}\b.*\bNOTIFY\s+(\w+)', text) if method is not None else None
+            signal = whole.signal(cls, found[2]) if found else None
+            if found and signal is not None:
+                return 'property', whole.class_of(signal), found[1]
         return None

@@ -2,10 +2,11 @@
 from __future__ import annotations
 
 import re
+from collections.abc import Iterator
 
 from .classes import CONTAINERS, SMART
 from .context import Context, sort_of
-from .libclang import CASTS, NAMES, RECORDS, REFERENCES, VARIABLES, Cursor, K, T, bare, expressions, is_written, strip
+from .libclang import CASTS, NAMES, RECORDS, REFERENCES, VARIABLES, Cursor, K, T, bare, cindex, expressions, is_written, strip
 from .model import NONE, NULL, UNKNOWN, Parameter, Term, Value
 from .qtmodel import GIVING
 
@@ -37,6 +38,8 @@ CHANGING = {K.COMPOUND_ASSIGNMENT_OPERATOR, K.UNARY_OPERATOR, K.BINARY_OPERATOR,
 class Values:
     def __init__(self, context: Context) -> None:
         self.context = context
+        # By a function where the variables are declared that it may change.
+        self._changed: dict[str, set[int]] = {}
 
     # Objects
 
@@ -184,6 +187,9 @@ class Values:
         inner = bare(cursor)
         if inner.kind == K.DECL_REF_EXPR and inner.referenced is not None and inner.referenced.kind == K.PARM_DECL:
             return self._parameter(inner.referenced, formal)
+        asked = self._asked(inner, formal) or self._copied(inner, formal)
+        if asked is not None:
+            return asked
         if formal is not None and formal.sort == 'int':
             return self._number(inner)
         if inner.kind == K.STRING_LITERAL and formal is not None:
@@ -201,6 +207,55 @@ class Values:
         if formal is not None and (formal.type, formal.sort) != (name, sort):
             return UNKNOWN
         return Term('parameter', int(key.rsplit(':', 1)[1]))
+
+    def _asked(self, inner: Cursor, formal: Parameter | None) -> Term | None:
+        """What an object is asked for: as a setter takes it, by a function that changes nothing, takes nothing and has no overriders."""
+        called = inner.referenced if inner.kind == K.CALL_EXPR else None
+        if called is None or formal is None or called.kind != K.CXX_METHOD or not called.is_const_method() or list(inner.get_arguments()):
+            return None
+        if called.is_virtual_method():
+            return None
+        sort, name = sort_of(called.result_type)
+        if (formal.type, formal.sort) != (name, sort):
+            return None
+        on = self.context.calls.object_of(inner)
+        value = self.context.this if on is None or strip(on).kind == K.CXX_THIS_EXPR else self.of(on) if self._is_one(on) else NONE
+        return Term('asked', 0, self.context.function_key(called), value) if value != NONE else None
+
+    def _copied(self, inner: Cursor, formal: Parameter | None) -> Term | None:
+        """What a local variable of this function was made with, where nothing changes it."""
+        variable, function = inner.referenced if inner.kind == K.DECL_REF_EXPR else None, self.context.function
+        if variable is None or function is None or variable.kind != K.VAR_DECL or variable.storage_class == cindex.StorageClass.STATIC:
+            return None
+        if formal is None or sort_of(variable.type) != (formal.sort, formal.type):
+            return None
+        at, initial = self.context.declared(variable), expressions(variable)
+        # A lambda may run when what it has caught is of old.
+        if not initial or (at.line, at.column) <= (function.place.line, function.place.column) or at.file != function.place.file:
+            return None
+        found = self.term(initial[-1], formal)
+        if found.kind not in ('asked', 'parameter') or variable.location.offset in self._changed_in(variable):
+            return None
+        return found
+
+    def _changed_in(self, variable: Cursor) -> set[int]:
+        """Where the variables are declared that the function may change in which one is."""
+        above = variable.semantic_parent
+        key = self.context.spot('B', above)
+        if key not in self._changed:
+            self._changed[key] = {int(named.referenced.location.offset) for named in self._changed_names(above)}
+        return self._changed[key]
+
+    def _is_one(self, cursor: Cursor) -> bool:
+        """Whether an expression names one object by a variable of this object or function: no container, and not what is handed in."""
+        named = strip(cursor)
+        variable = named.referenced if named.kind in NAMES else None
+        if variable is None or variable.kind not in (K.FIELD_DECL, K.VAR_DECL) or variable.semantic_parent is None:
+            return False
+        if not self.context.classes.only(variable.type) and not self.context.classes.is_value(variable.type):
+            return False
+        around = expressions(named)
+        return not around or strip(around[0]).kind == K.CXX_THIS_EXPR or strip(around[0]).kind == K.MEMBER_REF_EXPR and self._is_one(around[0])
 
     def _number(self, inner: Cursor) -> Term:
         words = self.context.text(inner)
@@ -220,13 +275,15 @@ class Values:
 
     def changed_parameters(self, body: Cursor) -> set[str]:
         """The parameters that a body may change, so that they can't be taken to be handed on."""
-        changed: set[str] = set()
+        return {self.context.variable_key(named.referenced) or '' for named in self._changed_names(body) if named.referenced.kind == K.PARM_DECL}
+
+    def _changed_names(self, body: Cursor) -> Iterator[Cursor]:
+        """The variables that something in a body may change, each where that stands."""
         for cursor in body.walk_preorder():
             for target in self._changes(cursor) if cursor.kind in CHANGING else ():
                 named = strip(target)
-                if named.kind == K.DECL_REF_EXPR and named.referenced is not None and named.referenced.kind == K.PARM_DECL:
-                    changed.add(self.context.variable_key(named.referenced) or '')
-        return changed
+                if named.kind == K.DECL_REF_EXPR and named.referenced is not None:
+                    yield named
 
     def _changes(self, cursor: Cursor) -> list[Cursor]:
         kind = cursor.kind

@@ -10,7 +10,7 @@ from .apart import members_in, names
 from .errors import ReadError
 from .report import SEVERITIES, Finding, Spot, StepTold, Verdict
 
-RESTS = ('each step hands on the value that it was given, and only a change is told: this comes to rest, where the setters '
+RESTS = ('each step hands on the value that was set, or asks for it, and only a change is told: this comes to rest, where the setters '
          'that were read as properties compare; that is not proved')
 CLIMBS = ('each step stays with its object, or goes on to one that holds it, as up a tree: this ends at the top, unless objects hold '
           'one another; that is not proved')
@@ -71,7 +71,7 @@ class Warnings:
         for finding in verdict.findings:
             names = {s.from_ for s in finding.chain}
             if finding.rule == 'cycle' and any(names <= known for known in self.resting):
-                finding.note = RESTS
+                finding.note, finding.severity = RESTS, 'note'
             elif finding.rule == 'cycle' and any(names <= known for known in self.climbing):
                 finding.note, finding.severity = CLIMBS, 'note'
             elif finding.rule == 'cycle' and _is_blocked(finding.chain):

@@ -20,6 +20,7 @@ class Whole:
         self.functions: dict[str, Function] = {}
         self.sites: dict[str, Site] = {}
         self.fields: dict[str, Field] = {}
+        self.getters: dict[str, str] = {}
         self.flows: dict[str, list[Value]] = {}
         self.declared: dict[str, str] = {}
         self.callables: dict[str, list[Named]] = defaultdict(list)
@@ -61,6 +62,7 @@ class Whole:
                 self.functions[key] = function
         self.sites.update(facts.sites)
         self.fields.update(facts.fields)
+        self.getters.update(facts.getters)
         self.declared.update(facts.declared)
         for key, value in facts.flows:
             if self._is_new(('flow', key, value)):
