@@ -167,7 +167,7 @@ def tell(options: argparse.Namespace, out: str, root: str) -> int:
     teller = Teller(root, options.context, os.path.join(out, 'app.gf'))
     form = teller.json if options.json else teller.sarif if options.sarif else teller.text
     print(form(verdict), end='')
-    return verdict.status
+    return verdict.told_status()
 
 
 def run(words: list[str]) -> int:

@@ -55,6 +55,28 @@ class Verdict:
     accepted: int
     status: int
 
+    def sort(self) -> None:
+        """The gravest first."""
+        self.findings.sort(key=lambda f: SEVERITIES.index(f.severity))
+
+    def told_status(self) -> int:
+        """The exit status: the checker's, but 0 where none of its errors is one for the reader."""
+        has_errors = self.more or any(f.severity == 'error' for f in self.findings)
+        return self.status if has_errors or self.status != FOUND else 0
+
+    def counted(self) -> str:
+        """How many findings there are, of which severities where not all are errors."""
+        count = len(self.findings) + self.more
+        if not count:
+            return 'nothing is found'
+        parts = [(sum(f.severity == severity for f in self.findings), severity) for severity in SEVERITIES]
+        told = ', '.join(plural(number, word) for number, word in parts if number)
+        return plural(count, 'finding') + (f': {told}' if parts[0][0] < len(self.findings) else '')
+
+
+def plural(count: int, word: str) -> str:
+    return f'{count} {word}' + ('' if count == 1 else 's')
+
 
 def checker(here: str) -> list[str]:
     """The words that run the checker: GAMMONFIG names it, else it stands beside this package."""
@@ -65,7 +87,7 @@ def checker(here: str) -> list[str]:
     return [path]
 
 
-USAGE = 1
+USAGE, FOUND = 1, 3
 # The gravest first.
 SEVERITIES = ('error', 'warning', 'note')
 # What the reader's own steps go by, in the words of the checker's.
@@ -75,8 +97,9 @@ BY = {'queued': 'wire', 'direct': 'statement'}
 def judge(program: str, places: Places, wide: bool = False) -> Verdict:
     """What the checker says of a program, with its places in C++. A `wide` one is over the standard limits."""
     told, status = _asked(program, wide)
-    findings = sorted((finding_of(f, places) for f in told['findings']), key=lambda f: SEVERITIES.index(f.severity))
-    return Verdict(findings, int(told.get('more', 0)), int(told.get('accepted', 0)), status)
+    verdict = Verdict([finding_of(f, places) for f in told['findings']], int(told.get('more', 0)), int(told.get('accepted', 0)), status)
+    verdict.sort()
+    return verdict
 
 
 def _asked(program: str, wide: bool) -> tuple[dict[str, Any], int]:
@@ -145,8 +168,7 @@ class Teller:
                 lines.append(f'  note: {finding.note}')
             elif finding.help:
                 lines.append(f'  help: {finding.help}')
-        count = len(verdict.findings) + verdict.more
-        lines.append(f'{count} finding{"" if count == 1 else "s"}' if count else 'nothing is found')
+        lines.append(verdict.counted())
         if verdict.more:
             lines.append(f'{verdict.more} of them aren\'t shown')
         return '\n'.join(lines) + '\n'

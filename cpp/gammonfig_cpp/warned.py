@@ -93,6 +93,7 @@ class Warnings:
         self._one_for_each_set(verdict)
         self._one_for_each_tree(verdict)
         _one_for_each_way(verdict)
+        verdict.sort()
 
     def _is_of_own(self, finding: Finding) -> bool:
         """Whether a slot deletes by a statement of its own what its object owns: no other object stands between."""

@@ -205,8 +205,8 @@ def test_one_note_for_each_tree(written: pathlib.Path, tmp_path: pathlib.Path) -
     findings = [circle('A.a()', 'A.b()', 'A.c()'), circle('A.b()', 'A.c()'), circle('B.a()'), circle('C.a()', 'C.b()')]
     pathlib.Path(named).write_text(f"#!/bin/sh\ncat > /dev/null\ncat << 'TXT'\n{json.dumps(VERDICT | {'findings': findings})}\nTXT\n")
     told = json.loads(run(tmp_path, '--verdict', 'out', '--json', GAMMONFIG=named).stdout)['findings']
-    assert [(f['message'], f['severity']) for f in told] == [('A.b()', 'note'), ('B.a()', 'note'), ('C.a()', 'error')]
-    assert 'ends at the top' in told[0]['note'] and 'note' not in told[2]
+    assert [(f['message'], f['severity']) for f in told] == [('C.a()', 'error'), ('A.b()', 'note'), ('B.a()', 'note')]
+    assert 'ends at the top' in told[1]['note'] and 'note' not in told[0]
 
 
 def test_a_circle_by_blocked_signals_or_without_its_connection() -> None:
@@ -303,7 +303,7 @@ def test_one_finding_for_each_set_of_circles(written: pathlib.Path, tmp_path: pa
     assert [f['message'] for f in told] == ['A.a()', 'B.a()', 'C.a()']
     assert [[(s['from'], s['to']) for s in f.get('also', [])] for f in told] == [[('A.c()', 'A.d()')], [], []]
     text = run(tmp_path, '--verdict', 'out', GAMMONFIG=named).stdout
-    assert 'note: also, `A.c()` leads later to `A.d()`' in text and text.endswith('3 findings\n')
+    assert 'note: also, `A.c()` leads later to `A.d()`' in text and text.endswith('3 findings: 3 warnings\n')
     result = json.loads(run(tmp_path, '--verdict', 'out', '--sarif', GAMMONFIG=named).stdout)['runs'][0]['results'][0]
     assert 'also, ' not in result['relatedLocations'][-1]['message']['text'] and 'A.c()' in result['relatedLocations'][-1]['message']['text']
 
@@ -335,6 +335,25 @@ def test_a_verdict_as_sarif(written: pathlib.Path) -> None:
     related = result['relatedLocations'][0]['physicalLocation']
     assert related['artifactLocation']['uri'] == 'out/app.gf'
     assert related['region']['startLine'] == 1, 'where the finding stands in the program'
+
+
+def test_where_all_errors_are_notes_the_status_is_none_of_theirs(written: pathlib.Path, tmp_path: pathlib.Path) -> None:
+    """A circle that the reader takes to come to rest comes behind what is an error still, and is none."""
+    shutil.copytree(written / 'out', tmp_path / 'out')
+    path = tmp_path / 'out/app.warnings.json'
+    circle = VERDICT['findings'][0] | {'rule': 'cycle', 'severity': 'error', 'message': 'rests'}  # type: ignore[index]
+    named = checker(tmp_path, 1)
+    for findings, status, ends in (([circle], 3, '1 finding\n'), ([circle, VERDICT['findings'][0] | {'severity': 'error'}], 3, '2 findings\n')):  # type: ignore[index]
+        pathlib.Path(named).write_text(f"#!/bin/sh\ncat > /dev/null\ncat << 'TXT'\n{json.dumps(VERDICT | {'findings': findings})}\nTXT\nexit 3\n")
+        done = run(tmp_path, '--verdict', 'out', GAMMONFIG=named)
+        assert (done.returncode, done.stdout.endswith(ends)) == (status, True), done.stdout
+    path.write_text(json.dumps(json.loads(path.read_text()) | {'resting': [['Desk.end()']]}))
+    done = run(tmp_path, '--verdict', 'out', GAMMONFIG=named)
+    assert done.returncode == 3 and done.stdout.endswith('2 findings: 1 error, 1 note\n')
+    assert done.stdout.index('error: m [destroy-path]') < done.stdout.index('note: rests [cycle]')
+    pathlib.Path(named).write_text(f"#!/bin/sh\ncat > /dev/null\ncat << 'TXT'\n{json.dumps(VERDICT | {'findings': [circle]})}\nTXT\nexit 3\n")
+    done = run(tmp_path, '--verdict', 'out', GAMMONFIG=named)
+    assert done.returncode == 0 and done.stdout.endswith('1 finding: 1 note\n')
 
 
 @pytest.mark.parametrize('form', ['--wide verdict', 'verdict --wide'])
