@@ -5,6 +5,7 @@ from typing import Collection, Iterator, Sequence
 
 from .deaths import Deaths
 from .editors import Editors
+from .events import Events
 from .grouping import Groups
 from .inner import MODEL
 from .insides import Insides
@@ -31,6 +32,7 @@ class Calling:
         self.deaths = Deaths(program, self)
         self.replacing = Replacing(program, qt, self)
         self.editors, self.items, self.sources, self.insides, self.groups = Editors(self), Items(self.objects), Sources(self), Insides(self), Groups(self)
+        self.events = Events(self)
         # The classes to whose `destroyed` something is connected; complete once all wires are there.
         self.watched = Related(self.objects, {Element('class', self.objects.cls(e)) for c in self.whole.connects
                                               if c.signal.name.split('(')[0] == 'destroyed'
@@ -315,10 +317,11 @@ class Calling:
         asked = (element, name, *lists)
         known = self._callbacks.get(asked)
         if known is None:
-            known = self._callbacks[asked] = self._callbacks_of(element, name, frozenset(lists))
+            known = self._callbacks[asked] = self.overriding(element, name, frozenset(lists)) + self.events.before(element, name)
         return known
 
-    def _callbacks_of(self, element: Element, name: str, lists: frozenset[Element]) -> list[tuple[Element, Key]]:
+    def overriding(self, element: Element, name: str, lists: frozenset[Element] = frozenset()) -> list[tuple[Element, Key]]:
+        """What a virtual function of an object is: the application's, and Qt's own."""
         whole, out = self.whole, list[tuple[Element, Key]]()
         cls, seen = self.objects.cls(element), set[str]()
         for below in [cls] if element.kind == 'site' else whole.below(cls):

@@ -326,6 +326,8 @@ class Calls:
                 owner = context.values.of(argument)
         if owner.kind not in ('null', 'none') and on.kind in ('site', 'this'):
             self.parting.own(owner, on, context.place(call))
+            if context.function is not None:
+                context.add('adopt', call, owner)
 
     def note_construction(self, constructor: str, on: Value, given: list[Cursor]) -> None:
         """What a constructor is handed for an object; '' stands for that of the object's class which takes so many arguments."""

@@ -10,6 +10,8 @@ from .model import Condition
 if TYPE_CHECKING:
     from .bodies import Bodies
 
+# How long the words of a condition may be: those on an event's type are read.
+LONGEST = 400
 ENDS = (K.RETURN_STMT, K.CONTINUE_STMT, K.BREAK_STMT, K.CXX_THROW_EXPR, K.GOTO_STMT)
 LABELS = (K.CASE_STMT, K.DEFAULT_STMT)
 
@@ -51,7 +53,7 @@ class Conditional:
         self.bodies.walk(statement)
         parts = list(statement.get_children()) if statement.kind == K.IF_STMT else []
         if len(parts) == 2 and ends(parts[1]):
-            words = self.context.text(parts[0])
+            words = self.context.text(parts[0], LONGEST)
             self.context.conditions.append(Condition('unless', words, statement.location.line))
             self.bodies.comparing.guard(parts[0], '==')
 
@@ -63,7 +65,7 @@ class Conditional:
             at += 1
         condition = parts[at]
         self.bodies.walk(condition)
-        words, line = self.context.text(condition), cursor.location.line
+        words, line = self.context.text(condition, LONGEST), cursor.location.line
         for branch, how in zip(parts[at + 1:], ('if', 'unless')):
             with self.context.under(Condition(how, words, line)), self.bodies.comparing.block():
                 if how == 'if':
@@ -74,7 +76,7 @@ class Conditional:
         """`a ? b : c`"""
         parts = list(cursor.get_children())
         self.bodies.walk(parts[0])
-        words, line = self.context.text(parts[0]), cursor.location.line
+        words, line = self.context.text(parts[0], LONGEST), cursor.location.line
         for part, how in zip(parts[1:], ('if', 'unless')):
             with self.context.under(Condition(how, words, line)):
                 self.bodies.walk(part)

@@ -30,7 +30,8 @@ class Effects:
         self.owning_members = {child.key for owner, child, _ in self.whole.owns if owner.kind == 'member'}
         self._kinds: dict[str, Callable[[Statement, Function], list[Step]]] = {
             'call': self._call, 'library': self._library, 'delete': self._delete, 'scope': self._delete, 'later': self._later, 'property': self._set_property,
-            'event': self._event, 'invoke': self._invoke, 'post': self._post, 'assign': self._assign, 'field': self._field}
+            'event': self._event, 'adopt': self._adopt, 'part': self._adopt, 'invoke': self._invoke, 'post': self._post, 'assign': self._assign,
+            'field': self._field}
 
     def all(self) -> None:
         """Reads all bodies; those that are made meanwhile too."""
@@ -99,6 +100,8 @@ class Effects:
     # Calls and emissions
 
     def _call(self, statement: Statement, function: Function) -> list[Step]:
+        if self.calling.events.is_handed_on(statement, function):
+            return self.calling.events.handed_on(statement, function)
         if statement.inline:
             return self._inline(statement, function)
         if statement.function not in self.whole.functions:
@@ -130,6 +133,8 @@ class Effects:
         return self.program.emitter(key[1]) if key[0] == 'signal' else key
 
     def _library(self, statement: Statement, function: Function) -> list[Step]:
+        if self.calling.events.is_handed_on(statement, function):
+            return self.calling.events.handed_on(statement, function)
         if self.whole.is_signal(statement.function):
             return self._emission(statement, function)
         steps, known = self.calling.call_steps(statement, function, True)
@@ -257,12 +262,18 @@ class Effects:
         return [Step('call', program.emitter(usr), program.of_class(cls), (), statement.place, statement.conditions)]
 
     def _event(self, statement: Statement, function: Function) -> list[Step]:
-        steps = []
-        for element in sorted(self.objects.elements(statement.on)):
-            for name in ('event', 'customEvent'):
-                for on, key in self.calling.callbacks(element, name):
-                    steps.append(Step('call', key, on, (), statement.place, statement.conditions))
-        return steps
+        steps = self.calling.events.sent(statement, function)
+        if statement.how != 'queued' or not steps:
+            return steps
+        signal, owner = self.program.posted(function, statement.place), self.program.owner_of(function)
+        for step in steps:
+            self.program.wires.append(Wire(owner, signal, step.on or owner, self.program.adapted(step.member, []), 'queued', statement.place))
+        return [Step('emit', signal, None, (), statement.place, statement.conditions)]
+
+    def _adopt(self, statement: Statement, function: Function) -> list[Step]:
+        """An object gets a child, and Qt tells it so."""
+        owner = statement.to if statement.kind == 'part' else statement.on
+        return self.calling.events.to(owner, ('childEvent',), statement, function)
 
     def _invoke(self, statement: Statement, function: Function) -> list[Step]:
         if statement.named is None:

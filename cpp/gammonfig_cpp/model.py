@@ -64,7 +64,8 @@ class Condition(NamedTuple):
     of: str = ''
 
     def told(self) -> str:
-        return f'{self.how} `{self.words}`' + (f' of `{self.of}`' if self.of else '')
+        words = self.words if len(self.words) <= 100 else self.words[:98].rstrip() + ' ..'
+        return f'{self.how} `{words}`' + (f' of `{self.of}`' if self.of else '')
 
 
 def exclude(one: tuple[Condition, ...], other: tuple[Condition, ...]) -> bool:
@@ -88,7 +89,7 @@ class Statement:
     """A thing that a body does.
 
     `call` and `library` (a function with sources, and one of Qt), `delete`, `scope` (a local object ends), `later`, `property`
-    (setProperty by name), `event` (sendEvent), `invoke`, `post`, `nested`, `assign` (a compared member is set), `field`, `read`,
+    (setProperty by name), `event` (an event of the class or type `name` is sent, or `queued`), `adopt` (an object gets a child), `invoke`, `post`, `nested`, `assign` (a compared member is set), `field`, `read`,
     `bind`, `observe` (of bindable properties), `close` (an object is told to delete itself), `part` (it has the owner `to` from here on,
     or none; `perhaps` where the function may have returned before). `how` is `queued` and such of a call by
     name, `told` of an emission that only tells what was set, `later` of a function of Qt that has what it is handed run later, and of a deletion

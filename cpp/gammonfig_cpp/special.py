@@ -1,6 +1,8 @@
 """Functions of Qt that mean something of their own to the reader: connections, timers, deletions, owners, nested loops."""
 from __future__ import annotations
 
+import re
+
 from .apart import members_in
 from .context import Context
 from .libclang import NAMES, Cursor, K, T, expressions, first_text, is_written, strip
@@ -14,10 +16,10 @@ DIALOGS = {('QMessageBox', n) for n in ('information', 'warning', 'critical', 'q
     {('QColorDialog', 'getColor'), ('QFontDialog', 'getFont'), ('QApplication', 'aboutQt')}
 # Calls after which Qt's own objects talk to each other, which isn't read.
 WIRING = {'setModel', 'setSourceModel', 'setSelectionModel', 'addMapping', 'setCompleter', 'setBuddy', 'setFocusProxy',
-          'installEventFilter', 'setMapping', 'setMenu', 'setDefaultAction', 'assignProperty', 'addTransition', 'setItemDelegate'}
+          'setMapping', 'setMenu', 'setDefaultAction', 'assignProperty', 'addTransition', 'setItemDelegate'}
 SPECIAL = {('QObject', 'connect'), ('QObject', 'disconnect'), ('QMetaObject', 'invokeMethod'), ('QTimer', 'singleShot'),
            ('QObject', 'deleteLater'), ('QObject', 'blockSignals'), ('QObject', 'moveToThread'), ('QObject', 'setProperty'),
-           ('QCoreApplication', 'sendEvent'), ('QMetaObject', 'connectSlotsByName'), ('QMetaObject', 'disconnect'),
+           ('QCoreApplication', 'sendEvent'), ('QCoreApplication', 'postEvent'), ('QMetaObject', 'connectSlotsByName'), ('QMetaObject', 'disconnect'),
            ('QSignalBlocker', 'unblock'), ('QSignalBlocker', 'reblock')}
 # Functions of trees and models that are handed a list of items.
 SEVERAL_ITEMS = {'addTopLevelItems', 'insertTopLevelItems', 'addChildren', 'insertChildren', 'appendRow', 'appendRows', 'insertRow', 'insertRows',
@@ -53,11 +55,21 @@ class Special:
             facts.moved.append(on)
         elif name == 'setProperty':
             self._set_property(call, on, given)
-        elif name == 'sendEvent' and given:
-            context.add('event', call, context.values.of(given[0]))
+        elif name in ('sendEvent', 'postEvent') and len(given) > 1:
+            self._send(call, given, 'queued' if name == 'postEvent' else '')
         elif name == 'connectSlotsByName':
             facts.named_slots = True
         context.calls.rest(call, callables=False)
+
+    def _send(self, call: Cursor, given: list[Cursor], how: str) -> None:
+        """An event is sent: one that the function was given, one whose type is named as it is made, or one of a class."""
+        context, event = self.context, strip(given[1])
+        statement = context.add('event', call, context.values.of(given[0]))
+        statement.terms, statement.how = (context.values.term(given[1], None),), how
+        inner = strip(expressions(event)[0]) if event.kind == K.UNARY_OPERATOR and expressions(event) else event
+        made = inner.referenced if inner.kind in NAMES and inner.referenced is not None else inner
+        named = re.search(r'\bQEvent::(?:Type::)?(?!Type\b)([A-Z]\w+)', context.text(made, 400)) if made.kind != K.PARM_DECL else None
+        statement.name = f'QEvent::{named[1]}' if named else str(event.type.get_pointee().get_canonical().get_declaration().spelling)
 
     def _block(self, call: Cursor, on: Value, given: list[Cursor]) -> None:
         if given and self.context.text(given[0]) == 'true':
