@@ -10,6 +10,7 @@ from .grouping import Groups
 from .inner import MODEL
 from .insides import Insides
 from .items import Items
+from .mapping import MAPPED, Mapping
 from .model import Function, Parameter, Statement, Term, Value
 from .objects import FREE, Element
 from .program import Key, Member, Program, Step, Wire
@@ -32,7 +33,7 @@ class Calling:
         self.deaths = Deaths(program, self)
         self.replacing = Replacing(program, qt, self)
         self.editors, self.items, self.sources, self.insides, self.groups = Editors(self), Items(self.objects), Sources(self), Insides(self), Groups(self)
-        self.events = Events(self)
+        self.events, self.mapping = Events(self), Mapping(self)
         # The classes to whose `destroyed` something is connected; complete once all wires are there.
         self.watched = Related(self.objects, {Element('class', self.objects.cls(e)) for c in self.whole.connects
                                               if c.signal.name.split('(')[0] == 'destroyed'
@@ -309,6 +310,8 @@ class Calling:
             return list(dict.fromkeys(t for o in self.sources.of(element) for t in self.callbacks(o, name[len(SOURCE) + 2:])))
         if name.startswith(f'{EDITOR}::'):
             return list(dict.fromkeys(t for o in self.editors.all() for t in self.callbacks(o, name[len(EDITOR) + 2:])))
+        if name == MAPPED:
+            return self.mapping.written(element)
         if '::' in name:
             class_name, name = name.split('::')
             classes = whole.by_name.get(class_name, ()) if self.items.may_reach(element, class_name) else ()

@@ -15,7 +15,7 @@ DIALOGS = {('QMessageBox', n) for n in ('information', 'warning', 'critical', 'q
     {('QInputDialog', n) for n in ('getText', 'getInt', 'getDouble', 'getItem', 'getMultiLineText')} | \
     {('QColorDialog', 'getColor'), ('QFontDialog', 'getFont'), ('QApplication', 'aboutQt')}
 # Calls after which Qt's own objects talk to each other, which isn't read.
-WIRING = {'setModel', 'setSourceModel', 'setSelectionModel', 'addMapping', 'setCompleter', 'setBuddy', 'setFocusProxy',
+WIRING = {'setModel', 'setSourceModel', 'setSelectionModel', 'setCompleter', 'setBuddy', 'setFocusProxy',
           'setMapping', 'setMenu', 'setDefaultAction', 'assignProperty', 'addTransition', 'setItemDelegate'}
 SPECIAL = {('QObject', 'connect'), ('QObject', 'disconnect'), ('QMetaObject', 'invokeMethod'), ('QTimer', 'singleShot'),
            ('QObject', 'deleteLater'), ('QObject', 'blockSignals'), ('QObject', 'moveToThread'), ('QObject', 'setProperty'),
