@@ -176,6 +176,7 @@ class Bodies:
             elif member is not None and member.kind == K.FIELD_DECL and cls and context.classes.is_value(member.type):
                 context.calls.initial(given, context.site(str(member.get_usr()), member, cls, member.spelling))
             elif member is not None:
+                context.calls.holders.fill(member, list(given.get_arguments()) or [given])
                 context.flow(str(member.get_usr()), context.values.of(given))
                 self.walk(given)
 

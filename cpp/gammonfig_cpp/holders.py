@@ -5,7 +5,7 @@ import re
 
 from .classes import OF_OWNERS
 from .context import Context
-from .libclang import NAMES, VARIABLES, Cursor, K, T, strip
+from .libclang import NAMES, VARIABLES, Cursor, K, T, expressions, is_written, strip
 from .model import SHARED_LATER, SHARED_ONCE
 
 PUTTING = {'append', 'push_back', 'prepend', 'insert', 'enqueue', 'push', 'emplace_back', 'operator=', 'operator+=', 'replace', 'push_front',
@@ -21,6 +21,8 @@ DELETER = re.compile(r'&\s*\w+::deleteLater|\[\]\s*\(.*\)\s*\{\s*\w+->deleteLate
 class Holders:
     def __init__(self, context: Context) -> None:
         self.context = context
+        # Members that a constructor has put something into.
+        self._filled: set[tuple[str, str]] = set()
 
     def call(self, call: Cursor, holder: str, name: str, on: Cursor | None, given: list[Cursor]) -> None:
         if on is None:
@@ -28,13 +30,29 @@ class Holders:
         if name in ('release', 'take'):
             self.context.bodies.release(on)
         function = self.context.function
-        first = name == 'operator=' and function is not None and function.kind == 'constructor'
+        first = function is not None and function.kind == 'constructor' and (name == 'operator=' or name == 'reset' and self._is_empty(on))
         if self._destroys(holder, name, on) and not first:
             self._destroy(call, on)
         if given and (name in PUTTING or name.startswith('operator<<')):
+            self.fill(strip(on).referenced, given)
             self._put(on, given[:1] if name == 'reset' else given)
         if name == 'reset':
             self.note_deleter(given)
+
+    def fill(self, variable: Cursor | None, given: list[Cursor]) -> None:
+        """Notes that the function which is read puts something into a variable."""
+        if self.context.function is not None and variable is not None and any(is_written(one) for one in given):
+            self._filled.add((self.context.function.key, str(variable.get_usr())))
+
+    def _is_empty(self, on: Cursor) -> bool:
+        """Whether a member of the object whose constructor is read holds nothing yet."""
+        named, function = strip(on), self.context.function
+        if function is None or named.kind != K.MEMBER_REF_EXPR or named.referenced is None or named.referenced.kind != K.FIELD_DECL:
+            return False
+        around, first = expressions(named), expressions(named.referenced)
+        own = not around or strip(around[0]).kind == K.CXX_THIS_EXPR
+        again = any(condition.how == 'in' for condition in self.context.conditions)
+        return own and not first and not again and (function.key, str(named.referenced.get_usr())) not in self._filled
 
     def _destroys(self, holder: str, name: str, on: Cursor) -> bool:
         if holder in WEAK:

@@ -76,3 +76,10 @@ def test_processed_events_may_call_the_slot_again() -> None:
     assert sorted(place.line for place in found.linked.program.modal.values()) == [78, 79]
     told = json.loads(Watching(found.linked.program, found.written.names, found.written.places).text())['findings']
     assert [(f['rule'], f['line']) for f in told] == [('re-entry', 78), ('re-entry', 79)]
+
+
+def test_a_pointer_that_a_constructor_fills_has_nothing_to_delete() -> None:
+    found = case('filling')
+    dying = [line for line in found.body('House_made') if line.startswith('delete')]
+    assert dying == [f'delete this.to_Lamp_{name};' for name in ('m_twice', 'm_given', 'm_early', 'm_again')], 'each of these holds one by then'
+    assert 'delete this.to_Lamp_m_once;' in found.body('change')
