@@ -19,6 +19,9 @@ from .relations import Related
 from .replacing import Replacing
 from .sources import SOURCE, Sources
 
+# What Qt makes in each editor of texts.
+DOCUMENT = 'QTextDocument'
+
 
 class Calling:
     def __init__(self, program: Program, qt: QtModel) -> None:
@@ -213,13 +216,15 @@ class Calling:
             fitting = [it for it in lists + models if whole.is_a(self.objects.cls(it), key)]
             if found is not None and fitting:
                 steps += [Step('call', program.emitter(found), program.role(it)) for it in fitting]
-            elif found is not None and not models and not whole.is_inside(key) and (self.is_present(key) or self._is_model_heard(key)):
+            elif found is not None and not models and not whole.is_inside(key) and (self.is_present(key) or self._is_inner_heard(key)):
                 steps.append(Step('call', program.emitter(found), program.of_class(key)))
         return steps
 
-    def _is_model_heard(self, cls: str) -> bool:
-        """Whether somebody is connected to a model of which nothing is known, and which may be one of a class that Qt made, as in a box."""
-        return any(self.is_connected(Element('class', above)) for above in self.whole.above(cls) if self.whole.is_named(above, MODEL))
+    def _is_inner_heard(self, cls: str) -> bool:
+        """Whether somebody is connected to an object of which nothing is known, and which may be one that Qt made in another, as the document
+        of an editor, or a model in a box."""
+        inner = [above for above in self.whole.above(cls) if self.whole.is_named(above, MODEL) or self.whole.name(above) == DOCUMENT]
+        return any(self.is_connected(Element('class', above)) for above in inner)
 
     def _deletes(self, element: Element, name: str) -> list[Step]:
         """What a function of Qt deletes: the object itself, or what it owns of a class."""
