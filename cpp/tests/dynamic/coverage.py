@@ -10,9 +10,9 @@ Pair = tuple[Event, Event]
 
 @dataclass
 class Coverage:
-    """`missed` is what isn't read, and leads on. `silent` isn't read either, but leads to nothing: no finding goes through it. `of_qt` has
-    an object that Qt made for itself: such a one emits as a user does, and what it brings about is a pair of its own. `outside` isn't in
-    the program."""
+    """`missed` is what isn't read, and leads on. `silent` isn't read either, but leads to nothing, or nobody was connected to it: no finding
+    goes through it. `of_qt` has an object that Qt made for itself: such a one emits as a user does, and what it brings about is a pair of its
+    own. `outside` isn't in the program."""
     covered: list[Pair] = field(default_factory=list)
     missed: list[Pair] = field(default_factory=list)
     silent: list[Pair] = field(default_factory=list)
@@ -43,7 +43,8 @@ def is_one(one: Event, other: Event, lines: dict[Called, Line]) -> bool:
 
 
 def do_the_same(ones: set[Node], others: set[Node], graph: Graph) -> bool:
-    """Whether functions are written with one body: those that call one another are, and none calls another one."""
+    """Whether functions are written with one body: those that call one another are, and none calls another one. What leads to one of them
+    leads to all that they do."""
     return any(graph.edges.get(one) and graph.edges.get(one) == graph.edges.get(other) for one in ones for other in others)
 
 
@@ -62,11 +63,11 @@ def cover(record: Record, graph: Graph, lines: dict[Called, Line] | None = None)
             continue
         if is_of_qt(outer) or is_of_qt(inner):
             found.of_qt.append(pair)
-        elif reached[outer] & known[inner] or isinstance(inner, Called) and do_the_same(known[outer], known[inner], graph):
+        elif reached[outer] & known[inner] or isinstance(inner, Called) and do_the_same(known[outer] | reached[outer], known[inner], graph):
             found.covered.append(pair)
         elif not known[inner] or not known[outer] and not is_of_program(outer, graph, lines or {}):
             found.outside.append(pair)
-        elif any(graph.leads_on(it) for it in known[inner]):
+        elif pair not in record.unheard and any(graph.leads_on(it) for it in known[inner]):
             found.missed.append(pair)
         else:
             found.silent.append(pair)

@@ -57,7 +57,13 @@ def read_by(build: Path, sources: list[Path], out: Path, cache: Path | None = No
     return out
 
 
+def heard(record: Record) -> set[Pair]:
+    pairs: set[Pair] = {*record.within, *record.under}
+    return pairs - record.unheard
+
+
 def add(whole: Record, one: Record) -> None:
+    whole.unheard = (whole.unheard | one.unheard) - heard(whole) - heard(one)
     whole.emitted.update(one.emitted)
     whole.within.update(one.within)
     whole.called.update(one.called)

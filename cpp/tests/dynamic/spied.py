@@ -65,6 +65,8 @@ class Record:
     # Functions that ran, and what came under which function, or which function under what: at once.
     called: dict[Called, int] = field(default_factory=dict)
     under: dict[tuple[Event, Event], int] = field(default_factory=dict)
+    # Of these pairs those whose inner one is a signal to which nobody was connected then.
+    unheard: set[tuple[Event, Event]] = field(default_factory=set)
     dead: dict[Emitted, int] = field(default_factory=dict)
     deepest: int = 0
     end: str = ""
@@ -98,6 +100,8 @@ def parse(text: str) -> Record:
                 record.called[Called.of(words[1])] = int(words[2])
             elif kind == "under" and count == 4:
                 record.under[(event_of(words[1]), event_of(words[2]))] = int(words[3])
+            elif kind == "unheard" and count == 3:
+                record.unheard.add((event_of(words[1]), event_of(words[2])))
             elif kind == "dead" and count == 3:
                 record.dead[Emitted.of(words[1])] = int(words[2])
             elif kind == "deepest" and count == 2:

@@ -38,6 +38,7 @@ struct Entry {
     void *function;          // none of an emission
     int name;
     int loop;                // how many event loops run below it
+    bool heard;              // whether somebody is connected to the signal; always, of a function
 };
 
 using Pair = std::pair<int, int>;
@@ -52,6 +53,7 @@ std::unordered_map<std::string, int> &numbers = *new std::unordered_map<std::str
 std::unordered_map<void *, int> &addresses = *new std::unordered_map<void *, int>;
 std::map<Pair, long> &within = *new std::map<Pair, long>;
 std::map<Pair, long> &loops = *new std::map<Pair, long>;
+std::set<Pair> &heard = *new std::set<Pair>;                  // of within, those of which the inner one once was
 std::set<QObject *> &watched = *new std::set<QObject *>;
 std::map<int, long> &dead = *new std::map<int, long>;
 size_t deepest = 0;
@@ -99,6 +101,9 @@ void writeOut(const char *end)
     writePairs(file, "within", within, false);
     writePairs(file, "loop", loops, false);
     writePairs(file, "under", within, true);
+    for (const auto &it : within)
+        if (!heard.count(it.first))
+            fprintf(file, "unheard\t%s\t%s\n", names[it.first.first].c_str(), names[it.first.second].c_str());
     for (const auto &it : dead)
         fprintf(file, "dead\t%s\t%ld\n", names[it.first].c_str(), it.second);
     fprintf(file, "deepest\t%zu\nend\t%s\n", deepest, end);
@@ -163,8 +168,11 @@ void watch(QObject *it)
 void enter(const Entry &now)
 {
     ++counts[now.name];
-    for (const Entry &outer : stack)
+    for (const Entry &outer : stack) {
         ++(outer.loop == now.loop ? within : loops)[{outer.name, now.name}];
+        if (now.heard && outer.loop == now.loop)
+            heard.insert({outer.name, now.name});
+    }
     stack.push_back(now);
 }
 
@@ -193,7 +201,8 @@ void begin(QObject *caller, int index, void **)
         noteDeath(caller);
     else
         watch(caller);
-    const Entry now{caller, nullptr, numbered(told(caller, signal), false), level()};
+    const bool isHeard = QObjectPrivate::get(caller)->isSignalConnected(uint(index));
+    const Entry now{caller, nullptr, numbered(told(caller, signal), false), level(), isHeard};
     if (counts[now.name] >= setting("SPY_MOST", 20000))
         stop("endless");
     enter(now);
@@ -261,7 +270,7 @@ extern "C" void __cyg_profile_func_enter(void *function, void *)
     const std::lock_guard<std::recursive_mutex> held(guard);
     const int name = numberOf(function);
     if (name >= 0)
-        enter({nullptr, function, name, level()});
+        enter({nullptr, function, name, level(), true});
 }
 
 extern "C" void __cyg_profile_func_exit(void *function, void *)

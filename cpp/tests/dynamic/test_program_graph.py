@@ -7,6 +7,7 @@ import pytest
 sys.path.insert(0, str(Path(__file__).resolve().parent.parent))
 sys.path.insert(0, str(Path(__file__).resolve().parent))
 from coverage import cover
+from example_runs import add
 from functions import short
 from program_graph import BadProgram, parse, read
 from spied import BadRecord, Called, Emitted, Record
@@ -98,6 +99,9 @@ ENDING = """class Box {
     slot close() {
         emit shut();
     }
+    slot leave() {
+        call this.open();
+    }
 }
 class Ear {
     slot hear() { }
@@ -108,16 +112,46 @@ wire Box shut() -> Ear hear() auto;
 
 def test_functions_that_the_compiler_wrote_and_those_of_one_body(tmp_path: Path) -> None:
     (tmp_path / "app.gf").write_text(ENDING)
-    places = [(1, "box.h", 5, "class Box"), (6, "box.cpp", 3, "void Box::open()"), (9, "box.cpp", 9, "void Box::close()")]
+    places = [(1, "box.h", 5, "class Box"), (6, "box.cpp", 3, "void Box::open()"), (9, "box.cpp", 9, "void Box::close()"),
+              (12, "box.cpp", 15, "void Box::leave()")]
     (tmp_path / "app.places").write_text("".join(f"{line}\t5\t{file}\t{at}\t10\t{words}\n" for line, file, at, words in places))
     graph = read(tmp_path / "app.gf", tmp_path)
     header, source = str(tmp_path / "box.h"), str(tmp_path / "box.cpp")
-    gone, deleting, made, opened, closed, heard = (Called("program", at) for at in range(6))
-    lines = {gone: (header, 5, "~Box"), deleting: (header, 5, "~Box"), made: (header, 5, "Box"), opened: (source, 3, "open"), closed: (source, 9, "close")}
+    gone, deleting, made, opened, closed, heard, left = (Called("program", at) for at in range(7))
+    lines = {left: (source, 15, "leave"), gone: (header, 5, "~Box"), deleting: (header, 5, "~Box"), made: (header, 5, "Box"), opened: (source, 3, "open"), closed: (source, 9, "close")}
     shut = Emitted("Box", "Box", "shut")
-    found = cover(Record(under={(gone, shut): 1, (deleting, gone): 1, (made, shut): 1, (opened, closed): 1, (opened, gone): 1, (shut, heard): 1}), graph, lines)
-    assert found.covered == [(gone, shut), (opened, closed), (opened, gone)], "what owns ends, and functions that do the same"
+    found = cover(Record(under={(gone, shut): 1, (deleting, gone): 1, (made, shut): 1, (opened, closed): 1, (opened, gone): 1, (left, closed): 1, (shut, heard): 1}), graph, lines)
+    assert found.covered == [(gone, shut), (opened, closed), (opened, gone), (left, closed)], "what owns ends, and functions that do the same"
     assert found.outside == [(made, shut), (shut, heard)] and not found.missed, "a constructor that isn't written is a part of what calls it"
+
+
+HEARD = """class Box {
+    signal shut();
+    slot open() {
+        emit shut();
+    }
+    slot close() { }
+}
+class Ear {
+    slot hear() {
+        call this.hear();
+    }
+}
+wire Box shut() -> Ear hear() auto;
+"""
+
+
+def test_a_signal_to_which_nobody_was_connected_leads_to_nothing(tmp_path: Path) -> None:
+    (tmp_path / "app.gf").write_text(HEARD)
+    places = [(3, "box.cpp", 3, "void Box::open()"), (6, "box.cpp", 9, "void Box::close()")]
+    (tmp_path / "app.places").write_text("".join(f"{line}\t5\t{file}\t{at}\t10\t{words}\n" for line, file, at, words in places))
+    closed, shut = Called("program", 1), Emitted("Box", "Box", "shut")
+    record, lines = Record(under={(closed, shut): 1}), {closed: (str(tmp_path / "box.cpp"), 9, "close")}
+    assert cover(record, read(tmp_path / "app.gf", tmp_path), lines).missed == [(closed, shut)]
+    record.unheard.add((closed, shut))
+    assert cover(record, read(tmp_path / "app.gf", tmp_path), lines).silent == [(closed, shut)]
+    add(record, Record(under={(closed, shut): 1}))
+    assert not record.unheard, "in another run somebody was"
 
 
 @pytest.mark.parametrize("told, name", [("Window::setValue(int)", "setValue"), ("main", "main"), ("void drop<Apple>(Apple*&)", "drop"),
@@ -138,6 +172,7 @@ def test_a_record_tells_functions() -> None:
     record = parse_record("called\t/bin/a@1f\t2\nunder\t/bin/a@1f\t~A.B.c\t1\nend\texit\n")
     assert record.called == {Called("/bin/a", 31): 2}
     assert record.under == {(Called("/bin/a", 31), Emitted("A", "B", "c", is_inner=True)): 1}
+    assert parse_record("unheard\t/bin/a@1f\tA.B.c\n").unheard == {(Called("/bin/a", 31), Emitted("A", "B", "c"))}
 
 
 @pytest.mark.parametrize("line", ["emitted\tA.B.c", "emitted\tAc\t1", "within\tA.B.c\tD.E.f\tx", "called\ta\t1", "called\ta@x\t1", "deepest", "other\t1"])
