@@ -209,7 +209,7 @@ class Calling:
         fellows = self.groups.fellows(element, class_name)
         if fellows is not None:
             heard = [(it, whole.signal(self.objects.cls(it), signal)) for it in fellows]
-            return [Step('call', program.emitter(usr), it) for it, usr in heard if usr is not None]
+            return [Step('call', program.emitter(usr), program.role(it)) for it, usr in heard if usr is not None]
         steps = []
         for key in whole.by_name.get(class_name, ()):
             found, models = whole.signal(key, signal), self.sources.of(element) if whole.is_named(key, MODEL) else []

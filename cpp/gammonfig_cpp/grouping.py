@@ -29,7 +29,7 @@ class Groups:
     def __init__(self, calling: Calling) -> None:
         self.calling, self.whole, self.objects = calling, calling.whole, calling.objects
         self._pairs: dict[Kind, list[tuple[Element, Element]]] = {}
-        self._exclusive: list[Element] | None = None
+        self._exclusive: set[Element] | None = None
 
     def pairs(self, kind: Kind) -> list[tuple[Element, Element]]:
         """Groups and their members, as far as they are known; a class stands for any of its objects."""
@@ -38,14 +38,14 @@ class Groups:
         return self._pairs[kind]
 
     def fellows(self, element: Element, name: str) -> list[Element] | None:
-        """The objects of a class that are in a group with one, and may be it; none where others may be told of with it too."""
+        """The objects of a class that are in a group with one, and may be it, or are exclusive without one, as it is; none of other classes."""
         kind = next((kind for kind in KINDS if kind.member == name), None)
-        cls = self.objects.cls(element)
-        if kind is None or not self.whole.is_named(cls, name) or kind is BUTTONS and self._is_exclusive(element):
+        if kind is None or not self.whole.is_named(self.objects.cls(element), name):
             return None
         may_be = self.calling.sources.may_be
         groups = {group for group, member in self.pairs(kind) if may_be(member, element)}
-        return sorted({self.objects.role(member) for group, member in self.pairs(kind) if any(may_be(group, one) for one in groups)})
+        found = {self.objects.role(member) for group, member in self.pairs(kind) if any(may_be(group, one) for one in groups)}
+        return sorted(found | (self._exclusives() if kind is BUTTONS and self._is_exclusive(element) else set()))
 
     def _found(self, kind: Kind) -> Iterator[tuple[Element, Element]]:
         whole = self.whole
@@ -69,8 +69,13 @@ class Groups:
 
     def _is_exclusive(self, button: Element) -> bool:
         """Whether a button may be exclusive among those of its parent."""
+        below = self.whole.below(button.key) if button.kind == 'class' else [self.objects.cls(button)]
+        return any(self.whole.is_named(cls, EXCLUSIVE) for cls in below) or any(self.calling.sources.may_be(one, button) for one in self._exclusives())
+
+    def _exclusives(self) -> set[Element]:
+        """The buttons that may be exclusive without a group."""
         if self._exclusive is None:
             calls = [(s, f) for f in self.whole.functions.values() for s in f.statements if s.kind == 'library' and s.name == MADE_EXCLUSIVE]
-            self._exclusive = [e for s, f in calls for e in self.objects.elements(s.on, s.cls or f.cls)]
-        below = self.whole.below(button.key) if button.kind == 'class' else [self.objects.cls(button)]
-        return any(self.whole.is_named(cls, EXCLUSIVE) for cls in below) or any(self.calling.sources.may_be(one, button) for one in self._exclusive)
+            self._exclusive = {self.objects.role(e) for s, f in calls for e in self.objects.elements(s.on, s.cls or f.cls)}
+            self._exclusive |= {Element('class', key) for key in self.whole.by_name.get(EXCLUSIVE, ()) if self.calling.is_present(key)}
+        return self._exclusive

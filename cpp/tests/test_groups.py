@@ -21,7 +21,7 @@ def test_an_action_unchecks_those_of_its_own_group() -> None:
 def test_a_button_unchecks_those_of_its_own_group() -> None:
     assert told('open') == ['QPushButton_m_first', 'QPushButton_m_second']
     assert told('press') == []
-    assert told('shout') == ['QAbstractButton'], 'one that is exclusive without a group any other'
+    assert told('shout') == ['QPushButton_m_loud', 'QRadioButton'], 'one that is exclusive without a group those that are so too'
 
 
 def test_a_group_tells_of_its_own() -> None:

@@ -27,6 +27,7 @@ public:
         connect(m_second, &QAbstractButton::toggled, this, &Window::look);
         connect(m_loud, &QAbstractButton::toggled, this, &Window::look);
         connect(m_plain, &QAbstractButton::toggled, this, &Window::look);
+        connect(m_station, &QAbstractButton::toggled, this, &Window::look);
         connect(m_sizes, &QActionGroup::triggered, this, &Window::look);
         connect(m_shapes, &QActionGroup::triggered, this, &Window::turn);
     }
@@ -54,4 +55,5 @@ private:
     QPushButton *m_second = new QPushButton(this);
     QPushButton *m_loud = new QPushButton(this);
     QPushButton *m_plain = new QPushButton(this);
+    QRadioButton *m_station = new QRadioButton(this);
 };
