@@ -133,7 +133,7 @@ class Calling:
         found = self.qt.entry(cls, name)
         shown = f'{self.whole.name(found[0] if found else cls)}::{name}'
         slot = f'{name[1:]}_gone' if name.startswith('~') else name
-        member = Member(key, element, slot, 'slot', shown, None, parameters, library=True)
+        member = Member(key, element, slot, 'slot', shown, None, parameters, library=True, lists=roles)
         program.add(member)
         if found is not None:
             member.steps = self._library_steps(key, element, parameters, found[1], found[2], roles)

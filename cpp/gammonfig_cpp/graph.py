@@ -12,19 +12,21 @@ from .graphs import parts
 from .model import Condition, Place
 from .naming import Naming
 from .objects import Element
-from .program import WAYS, Key, Program, Step
+from .program import WAYS, Key, Program, Step, Wire
 
 Node = tuple[Element, Key]
 
 
 @dataclass(frozen=True)
 class Why:
-    """What draws an edge: a place with its conditions, whether an event loop stands between, and whether it is a connection."""
+    """What draws an edge: a place with its conditions, whether an event loop stands between, whether it is a connection, and whether Qt
+    doesn't go there again before it has come back."""
     place: Place | None
     conditions: tuple[Condition, ...] = ()
     queued: bool = False
     way: str = 'other'
     is_wire: bool = False
+    once: bool = False
 
 
 class Targets:
@@ -123,7 +125,7 @@ class Graph:
             self.dying[(role, key)] = new if known is None else known | new
 
     def _step(self, key: Key, roles: list[Element], step: Step) -> None:
-        why = Why(step.place, step.conditions, way='other' if step.on or key in self.program.folded else 'same')
+        why = Why(step.place, step.conditions, way='other' if step.on or key in self.program.folded else 'same', once=step.once)
         of_owner = self.program.members[step.member].owner
         to = self._of_all(step.on, step.member) if step.on is not None else None
         for role in roles:
@@ -133,23 +135,28 @@ class Graph:
     def _wires(self) -> None:
         members = self.program.members
         for wire in self.program.wires:
-            if wire.how == 'queued' and not self.queued:
-                continue
-            why = Why(wire.place, (), wire.how == 'queued', wire.way, True)
-            self._from_all(wire.sender, wire.signal, why, self._of_all(wire.receiver, wire.method))
+            if wire.how != 'queued' or self.queued:
+                self.connect(wire)
         for bound in self.program.bound:
             for source in (s for s in bound.sources if s in members):
                 self._from_all(members[source].owner, source, Why(bound.place), self._of_all(members[bound.target].owner, bound.target))
+
+    def connect(self, wire: Wire) -> None:
+        """Takes a wire for an edge."""
+        why = Why(wire.place, (), wire.how == 'queued', wire.way, True, wire.once)
+        self._from_all(wire.sender, wire.signal, why, self._of_all(wire.receiver, wire.method))
+        self.__dict__.pop('links', None)
 
     def _from_all(self, role: Element, key: Key, why: Why, targets: Targets | None) -> None:
         for node in ((r, key) for r in self.roles(role)):
             if node in self.outs:
                 self._add(node, why, targets)
 
-    def without(self, how: str) -> Graph:
-        """The graph without the steps that have such a condition."""
+    def without(self, how: str, once: bool = False) -> Graph:
+        """The graph without the steps that have such a condition, and where `once` is true, without those that Qt takes once at a time."""
         other = copy(self)
-        other.outs = {node: [(why, to) for why, to in outs if all(c.how != how for c in why.conditions)] for node, outs in self.outs.items()}
+        other.outs = {node: [(why, to) for why, to in outs if not (once and why.once) and all(c.how != how for c in why.conditions)]
+                      for node, outs in self.outs.items()}
         other.edges = Edges(other.outs)
         other.__dict__.pop('links', None)
         return other

@@ -68,7 +68,7 @@ class Insides:
             others = calling.sources.in_view(element, wire.receiver) if is_known and not is_own else None
             found = calling.callbacks(element, wire.member if is_own else f'{wire.receiver}::{wire.member}') if others is None else \
                 [target for other in others for target in calling.callbacks(other, wire.member)]
-            steps += [Step('call', key, on, words=f'Qt connects {signal} to {wire.member}') for on, key in found]
+            steps += [Step('call', key, on, words=f'Qt connects {signal} to {wire.member}', once=wire.once) for on, key in found]
         return steps
 
     # Models of items

@@ -18,7 +18,8 @@ MOST_PARAMETERS = 8
 @dataclass(slots=True)
 class Step:
     """A statement: `emit`, `call`, `set` or `delete`, on `this` where `on` is None. `is_own`: what is deleted is owned by this object.
-    `held`: the property that has been given the parameter 0 where this is emitted."""
+    `held`: the property that has been given the parameter 0 where this is emitted. `once`: Qt doesn't do it again before it has come
+    back."""
     kind: str
     member: Key
     on: Element | None = None
@@ -28,10 +29,11 @@ class Step:
     words: str = ''
     is_own: bool = False
     held: Key | None = None
+    once: bool = False
 
     def same(self) -> tuple[object, ...]:
         """What makes two steps one: where it stands plays no part."""
-        return self.kind, self.member, self.on, self.terms
+        return self.kind, self.member, self.on, self.terms, self.once
 
 
 @dataclass(slots=True)
@@ -47,6 +49,8 @@ class Member:
     steps: list[Step] = field(default_factory=list)
     notify: Key | None = None
     library: bool = False
+    # Of a function of Qt on an item the lists that it is in.
+    lists: list[Element] = field(default_factory=list)
 
 
 @dataclass(slots=True)

@@ -205,5 +205,5 @@ def unique_wires(wires: list[Wire]) -> list[Wire]:
     found: dict[tuple[object, ...], Wire] = {}
     for wire in wires:
         known = found.setdefault((wire.sender, wire.signal, wire.receiver, wire.method, wire.how), wire)
-        known.way = max(known.way, wire.way, key=WAYS.index)
+        known.way, known.once = max(known.way, wire.way, key=WAYS.index), known.once and wire.once
     return list(found.values())

@@ -3,7 +3,7 @@ through an event loop."""
 from __future__ import annotations
 
 import json
-from dataclasses import dataclass
+from dataclasses import dataclass, field
 from typing import Any
 
 from .apart import members_in, names
@@ -36,7 +36,8 @@ CIRCLES = ('cycle', 'queued-cycle', 'settling-cycle')
 class Warnings:
     """What the reader warned of; the circles that it takes to come to rest, and to go up a tree; where objects delete what they own; what
     is on circles only by the death of an object; the sets of members that lead to one another through an event loop; what Qt itself
-    posts, and which steps it doesn't take again before it has come back; and whether the program is over the standard limits."""
+    posts, and which steps it doesn't take again before it has come back; whether the program is over the standard limits; by Qt's functions of
+    items the lists that they are in; and circles beside those through blocked signals, each with the members of its set."""
     found: list[dict[str, Any]]
     resting: list[set[str]]
     climbing: list[set[str]]
@@ -46,6 +47,8 @@ class Warnings:
     by_qt: set[str]
     once: set[tuple[str, str]]
     wide: bool
+    lists: dict[str, list[str]] = field(default_factory=dict)
+    unblocked: list[tuple[set[str], dict[str, Any]]] = field(default_factory=list)
 
     @staticmethod
     def read(path: str) -> Warnings:
@@ -57,8 +60,11 @@ class Warnings:
             climbing = [set(names) for names in told['climbing']]
             circling = [set(names) for names in told['circling']]
             once = {(str(one), str(two)) for one, two in told['once']}
-            return Warnings(told['findings'], resting, climbing, own, set(told['by_death']), circling, set(told['by_qt']), once, bool(told['wide']))
-        except (OSError, ValueError, KeyError, TypeError) as wrong:
+            lists = {str(name): [str(it) for it in those] for name, those in told['lists'].items()}
+            unblocked = [(set(each['members']), dict(each['finding'])) for each in told['unblocked']]
+            return Warnings(told['findings'], resting, climbing, own, set(told['by_death']), circling, set(told['by_qt']), once, bool(told['wide']), lists,
+                            unblocked)
+        except (OSError, ValueError, KeyError, TypeError, AttributeError) as wrong:
             raise ReadError(f'{path}: the warnings can\'t be read: read the application again') from wrong
 
     def add_to(self, verdict: Verdict) -> None:
@@ -67,6 +73,7 @@ class Warnings:
         judge."""
         verdict.findings = [f for f in verdict.findings if f.rule not in (COVERED, EMPTY)
                             and (f.rule != 'deletes-connected' or not {s.from_ for s in f.chain} & self.by_qt)]
+        self._add_unblocked(verdict)
         entered = {f.chain[-1].to for f in verdict.findings if f.rule == RE_ENTRY and f.chain}
         for finding in verdict.findings:
             names = {s.from_ for s in finding.chain}
@@ -74,7 +81,7 @@ class Warnings:
                 finding.note, finding.severity = RESTS, 'note'
             elif finding.rule == 'cycle' and any(names <= known for known in self.climbing):
                 finding.note, finding.severity = CLIMBS, 'note'
-            elif finding.rule == 'cycle' and _is_blocked(finding.chain):
+            elif finding.rule == 'cycle' and self._is_blocked(finding.chain):
                 finding.note, finding.severity = BLOCKED, 'note'
             elif finding.rule == 'cycle' and _is_disconnected(finding.chain):
                 finding.note, finding.severity = DISCONNECTED, 'note'
@@ -88,12 +95,31 @@ class Warnings:
         for finding in verdict.findings:
             if finding.rule == 'queued-cycle' and finding.chain and all(s.from_ in self.by_death for s in finding.chain):
                 finding.note, finding.severity = DIES_ONCE, 'note'
-            elif finding.rule == 'queued-cycle' and _is_blocked(finding.chain):
+            elif finding.rule == 'queued-cycle' and self._is_blocked(finding.chain):
                 finding.note, finding.severity = BLOCKED, 'note'
         self._one_for_each_set(verdict)
         self._one_for_each_tree(verdict)
         _one_for_each_way(verdict)
         verdict.sort()
+
+    def _add_unblocked(self, verdict: Verdict) -> None:
+        """Adds circles without blocked signals of sets of which the checker told none, though it told of circles."""
+        told = [{s.from_ for s in f.chain} for f in verdict.findings if f.rule == 'cycle']
+        verdict.findings += [warning_of(finding) for members, finding in self.unblocked if told and not any(names <= members for names in told)]
+
+    def _is_blocked(self, chain: list[StepTold]) -> bool:
+        """Whether one step of a circle calls an object whose signals are blocked meanwhile, or an item of one, and a later one is a connection
+        to a signal of it, which no event loop stands before."""
+        for at, step in enumerate(chain):
+            if step.is_later or not any(c.startswith('blocked by') for c in step.spot.conditions):
+                continue
+            blocked = {step.to.partition('.')[0], *self.lists.get(step.to, ())}
+            for later in chain[at + 1:] + chain[:at]:
+                if later.by == 'wire' and later.from_.partition('.')[0] in blocked:
+                    return True
+                if later.is_later:
+                    break
+        return False
 
     def _is_of_own(self, finding: Finding) -> bool:
         """Whether a slot deletes by a statement of its own what its object owns: no other object stands between."""
@@ -138,19 +164,6 @@ def _one_for_each_way(verdict: Verdict) -> None:
     verdict.findings = [group[0] for group in told.values()]
 
 
-def _is_blocked(chain: list[StepTold]) -> bool:
-    """Whether one step of a circle calls an object whose signals are blocked meanwhile, and a later one is a connection to a signal of it,
-    which no event loop stands before."""
-    for at, step in enumerate(chain):
-        blocked = step.to.partition('.')[0] if any(c.startswith('blocked by') for c in step.spot.conditions) and not step.is_later else None
-        for later in chain[at + 1:] + chain[:at] if blocked is not None else ():
-            if later.by == 'wire' and later.from_.partition('.')[0] == blocked:
-                return True
-            if later.is_later:
-                break
-    return False
-
-
 def _is_disconnected(chain: list[StepTold]) -> bool:
     """Whether one step of a circle runs while a connection is taken away that another one goes by."""
     for at, step in enumerate(chain):
@@ -178,4 +191,4 @@ def warning_of(told: dict[str, Any]) -> Finding:
                     tuple(of.get('conditions', ())))
 
     chain = [StepTold(spot(s), str(s['from']), str(s['to']), str(s['by']), str(s['message']), bool(s['queued'])) for s in told['chain']]
-    return Finding(spot(told), str(told['rule']), 0, str(told['message']), '', chain, 'warning')
+    return Finding(spot(told), str(told['rule']), 0, str(told['message']), '', chain, str(told.get('severity', 'warning')))

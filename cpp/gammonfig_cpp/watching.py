@@ -13,6 +13,9 @@ from .program import Program
 from .reentry import ReEntries
 from .settling import Settling
 
+# From how many members of a set a shortest circle is looked for.
+MOST_STARTS = 50
+
 
 class Watching:
     def __init__(self, program: Program, names: Naming, places: Places) -> None:
@@ -26,7 +29,8 @@ class Watching:
         found = sorted(self._queued_cycles() + self._re_entries(), key=lambda f: [str(f.get(k, '')) for k in ('rule', 'file')]
                        + [f"{f.get('line', 0):>9}", str(f['message'])])
         told = {'findings': found, 'resting': resting, 'climbing': Climbing(direct).sets(), 'own': self._own(), 'by_death': self._by_death(),
-                'circling': self._circling(), 'by_qt': self._by_qt(), 'once': self._once(), 'wide': wide}
+                'circling': self._circling(), 'by_qt': self._by_qt(), 'once': self._once(), 'wide': wide, 'lists': self._lists(),
+                'unblocked': self._unblocked(direct)}
         return json.dumps(told, indent=1, ensure_ascii=False) + '\n'
 
     def _own(self) -> list[list[object]]:
@@ -55,11 +59,19 @@ class Watching:
         return sorted({self.graph.name(node) for node in self.graph.outs if node[1][0] == 'posted' and members[node[1]].library})
 
     def _once(self) -> list[list[str]]:
-        """Steps of Qt's own that it doesn't take again before it has come back from them."""
-        graph = self.graph
-        pairs = [(a, b, w) for w in self.program.wires if w.once for a in graph.roles(w.sender) for b in graph.roles(w.receiver)]
-        told = {(graph.name((a, w.signal)), graph.name((b, w.method))) for a, b, w in pairs if (b, w.method) in graph.edges.get((a, w.signal), ())}
+        """Steps of Qt's own that it doesn't take again before it has come back from them, and that nothing else takes."""
+        told = set[tuple[str, str]]()
+        for node, outs in self.graph.outs.items():
+            once = {to for why, targets in outs if why.once for to in targets.nodes}
+            others = {to for why, targets in outs if not why.once for to in targets.nodes} if once else set()
+            told |= {(self.graph.name(node), self.graph.name(to)) for to in once - others}
         return [list(names) for names in sorted(told)]
+
+    def _lists(self) -> dict[str, list[str]]:
+        """By a function of Qt on an item the lists that it is in: they tell what becomes of it."""
+        graph, members = self.graph, self.program.members
+        return {graph.name(node): [graph.names.classes[it] for it in members[node[1]].lists if it in graph.names.classes]
+                for node in sorted(graph.outs) if members[node[1]].lists}
 
     def _told(self, why: Why) -> dict[str, object]:
         place = why.place
@@ -69,20 +81,35 @@ class Watching:
                                    'words': place.words}
         return told | ({'conditions': [c.told() for c in why.conditions]} if why.conditions else {})
 
-    def _chain(self, way: list[Node]) -> list[dict[str, object]]:
+    def _chain(self, way: list[Node], graph: Graph) -> list[dict[str, object]]:
         chain = []
         for one, two in zip(way, way[1:]):
-            why = self.graph.edges[one][two]
+            why = graph.edges[one][two]
             names = {'from': self.graph.name(one), 'to': self.graph.name(two), 'by': 'wire' if why.is_wire else 'statement',
                      'queued': why.queued, 'message': f'`{self.graph.name(one)}` leads {"later " if why.queued else ""}to `{self.graph.name(two)}`'}
             chain.append(self._told(why) | names)
         return chain
 
-    def _finding(self, rule: str, message: str, way: list[Node]) -> dict[str, object]:
-        chain = self._chain(way)
+    def _finding(self, rule: str, message: str, way: list[Node], graph: Graph | None = None) -> dict[str, object]:
+        chain = self._chain(way, graph or self.graph)
         first: dict[str, object] = next((s for s in chain if 'file' in s), {})
         spot = {k: first[k] for k in ('file', 'line', 'column', 'words') if k in first}
         return {'rule': rule, 'number': 0, 'severity': 'warning', 'message': message, **spot, 'chain': chain}
+
+    def _unblocked(self, graph: Graph) -> list[dict[str, object]]:
+        """A circle of each set of members that lead to one another without blocked signals, and what Qt does once at a time, where others go
+        by these: of a set the checker tells ten circles, which may be such alone."""
+        free, found = graph.without('blocked by', once=True), list[dict[str, object]]()
+        blocked = {node for node in graph.outs if len(free.outs[node]) < len(graph.outs[node])}
+        sets = [members for members in graph.components() if not members.isdisjoint(blocked)]
+        for members in free.components() if sets else ():
+            if any(members <= those for those in sets):
+                ways = (free.way([m for m in sorted(free.edges[n]) if m in members], n, members) for n in sorted(members)[:MOST_STARTS])
+                best = min((way for way in ways if way is not None), key=len)
+                message = f'`{graph.name(best[-1])}` may lead back to itself at once, and so without end'
+                told = self._finding('cycle', message, [best[-1], *best], free) | {'severity': 'error'}
+                found.append({'members': sorted(map(graph.name, members)), 'finding': told})
+        return found
 
     def _queued_cycles(self) -> list[dict[str, object]]:
         """A shortest circle with a queued step of each set of members that lead to one another; one through blocked signals, where there

@@ -6,6 +6,7 @@ import os
 import re
 import subprocess
 import sys
+import tempfile
 from dataclasses import dataclass
 
 HERE = os.path.dirname(os.path.abspath(__file__))
@@ -17,15 +18,18 @@ from gammonfig_cpp.gather import gather  # noqa: E402
 from gammonfig_cpp.linking import Linked, link  # noqa: E402
 from gammonfig_cpp.model import Facts  # noqa: E402
 from gammonfig_cpp.qtmodel import Table  # noqa: E402
+from gammonfig_cpp.report import Finding, judge  # noqa: E402
 from gammonfig_cpp.units import Unit  # noqa: E402
+from gammonfig_cpp.warned import Warnings  # noqa: E402
+from gammonfig_cpp.watching import Watching  # noqa: E402
 from gammonfig_cpp.writing import Writing, Written  # noqa: E402
 
 
 # The modules of Qt that cases need beyond its core.
 MODULES = {'handing.cpp': 'Qt6Concurrent', **dict.fromkeys(('answers.cpp', 'visits.cpp'), 'Qt6Network'),
-           **dict.fromkeys(('asked.cpp', 'boxes.cpp', 'documents.cpp', 'ends.cpp', 'events.cpp', 'groups.cpp', 'items.cpp',
-                            'mapping.cpp', 'models.cpp', 'owners.cpp', 'progress.cpp', 'reentries.cpp', 'selections.cpp', 'views.cpp',
-                            'widgets.cpp'), 'Qt6Widgets')}
+           **dict.fromkeys(('asked.cpp', 'blocked.cpp', 'boxes.cpp', 'documents.cpp', 'ends.cpp', 'events.cpp', 'groups.cpp',
+                            'items.cpp', 'limits.cpp', 'mapping.cpp', 'models.cpp', 'owners.cpp', 'progress.cpp', 'reentries.cpp',
+                            'selections.cpp', 'views.cpp', 'widgets.cpp'), 'Qt6Widgets')}
 
 
 @functools.cache
@@ -65,6 +69,17 @@ class Case:
 
     def wires(self) -> list[str]:
         return [line for line in self.text.split('\n') if line.startswith('wire ')]
+
+    def findings(self) -> list[Finding]:
+        """What is told of it: the checker's verdict, with what the reader adds."""
+        with tempfile.TemporaryDirectory() as folder:
+            program, warnings = os.path.join(folder, 'app.gf'), os.path.join(folder, 'app.warnings.json')
+            for path, text in ((program, self.text), (warnings, Watching(self.linked.program, self.written.names, self.written.places).text())):
+                with open(path, 'w', encoding='utf-8') as file:
+                    file.write(text)
+            told = judge(program, self.written.places)
+            Warnings.read(warnings).add_to(told)
+        return told.findings
 
     def place(self, start: str) -> str:
         """The line of places for the first line of the program that begins so."""

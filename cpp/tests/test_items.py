@@ -1,5 +1,8 @@
 """Items that are no QObjects, and what makes actions that Qt connects."""
+import json
+
 from reading import case
+from gammonfig_cpp.watching import Watching
 
 
 def test_qt_calls_the_functions_that_an_item_overrides() -> None:
@@ -26,6 +29,12 @@ def test_a_view_hands_over_what_was_edited_to_its_own_items() -> None:
     assert found.body('setCurrentCell') == calls, 'and to no other model'
     assert found.body('setCurrentIndex', 'QTreeView_m_view') == ['call this.to_QAbstractItemModel.setData("", "", 0);']
     assert found.body('setCurrentRow') == ['set this.currentRow = row;'], 'and a list to no item of a table'
+
+
+def test_a_view_hands_over_one_editor_at_a_time() -> None:
+    found = case('items')
+    once = json.loads(Watching(found.linked.program, found.written.names, found.written.places).text())['once']
+    assert ['QTableWidget_m_table.setCurrentCell(int,int)', 'QTableWidgetItem.setData_2(int,QString)'] in once
 
 
 def test_an_item_tells_the_list_alone_that_it_was_handed_to() -> None:

@@ -32,7 +32,8 @@ def test_a_selection_ends_the_editor_that_a_delegate_made() -> None:
 def test_an_editor_hands_over_its_value_once() -> None:
     found = case('views')
     once = json.loads(Watching(found.linked.program, found.written.names, found.written.places).text())['once']
-    assert once == [['QItemSelectionModel.currentChanged(QString,QString)', 'QLineEdit_line.focusOutEvent_with(QString,QString)']]
+    assert once == [['Grid.setCurrentIndex(QString)', 'QLineEdit_line.focusOutEvent(QString)'],
+                    ['QItemSelectionModel.currentChanged(QString,QString)', 'QLineEdit_line.focusOutEvent_with(QString,QString)']]
 
 
 def test_a_view_is_told_of_its_own_selection() -> None:

@@ -1,0 +1,41 @@
+"""Circles that come to rest by what is read, each beside one that doesn't: that is told as an error."""
+import json
+
+from reading import case
+from gammonfig_cpp.report import Finding, Spot, StepTold, Verdict
+from gammonfig_cpp.warned import Warnings
+from gammonfig_cpp.watching import Watching
+
+
+def circles(name: str) -> dict[str, set[int]]:
+    """By a severity the lines on circles that are told of a case."""
+    found: dict[str, set[int]] = {}
+    for finding in case(name).findings():
+        if finding.rule in ('cycle', 'settling-cycle'):
+            found.setdefault(finding.severity, set()).update(step.spot.line for step in finding.chain)
+    return found
+
+
+def line_of(name: str, words: str) -> int:
+    """The line of a case in which some words stand first."""
+    with open(f'{__file__.rpartition("/")[0]}/cases/{name}.cpp', encoding='utf-8') as file:
+        return next(number for number, line in enumerate(file, 1) if words in line)
+
+
+def test_an_item_of_a_list_whose_signals_are_blocked_ends_a_circle() -> None:
+    told = circles('blocked')
+    assert line_of('blocked', 'm_feeds->item(0)') in told['note'] - told['error']
+    assert line_of('blocked', 'm_rules->item(0)') in told['error'], 'and no item of another list'
+
+
+def test_a_circle_beside_blocked_ones_is_told() -> None:
+    """The checker tells ten circles of a set: where all go by blocked signals, the reader tells another one."""
+    found, line = case('blocked'), line_of('blocked', 'emit told();')
+    told = json.loads(Watching(found.linked.program, found.written.names, found.written.places).text())['unblocked']
+    assert [{step['line'] for step in one['finding']['chain']} for one in told] == [{line, line_of('blocked', '&Notes::told, this')}]
+    unblocked = [(set(one['members']), one['finding']) for one in told]
+    for names, count in ((['Notes.mute()', 'QListWidgetItem.setCheckState(int)'], 2), (['Notes.mute()', 'Notes.told()'], 1)):
+        chain = [StepTold(Spot('a.cpp', 1), a, b, 'wire', '') for a, b in zip(names, names[::-1])]
+        verdict = Verdict([Finding(Spot(), 'cycle', 0, 'm', '', chain)], 0, 0, 3)
+        Warnings([], [], [], set(), set(), [], set(), set(), False, {}, unblocked).add_to(verdict)
+        assert [f.severity for f in verdict.findings] == ['error'] * count
