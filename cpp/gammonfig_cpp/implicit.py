@@ -2,7 +2,7 @@
 from __future__ import annotations
 
 from .context import Context
-from .libclang import Cursor, K, expressions, strip
+from .libclang import FUNCTIONS, Cursor, K, expressions, strip
 from .model import Value
 
 # How deep members of members are looked at whose classes have no constructor of their own.
@@ -32,6 +32,8 @@ class Implicit:
                 initial, cls = expressions(kid), classes.of(kid.type)
                 if initial:
                     self._initialised(kid, strip(initial[-1]))
+                    with self.context.hinted(kid.spelling):
+                        self._calls_of(initial[-1])
                 elif cls and classes.is_value(kid.type):
                     self._default(kid.type.get_canonical().get_declaration(), Value('site', str(kid.get_usr()), cls), kid, depth)
 
@@ -61,6 +63,15 @@ class Implicit:
             if called is not None and called.kind == K.CONSTRUCTOR and self.context.is_inside(called) and cls:
                 on = Value('site', self.context.spot('N', made) if is_new else str(field.get_usr()), cls)
                 self._call(self.context.calls.declared_constructor(called), on, call, list(call.get_arguments()))
+
+    def _calls_of(self, made: Cursor) -> None:
+        """What a member's initialiser in the class calls of the application's functions."""
+        called = made.referenced if made.kind == K.CALL_EXPR else None
+        if called is not None and called.kind in FUNCTIONS and called.kind != K.CONSTRUCTOR and self.context.is_inside(called):
+            self.context.bodies.walk(made)
+        elif made.kind != K.LAMBDA_EXPR:
+            for inner in made.get_children():
+                self._calls_of(inner)
 
     def _call(self, constructor: Cursor, on: Value, at: Cursor, given: list[Cursor]) -> None:
         self.context.calls.to_function(at, constructor, on, given).virtual = False

@@ -6,6 +6,7 @@ from dataclasses import dataclass
 from .bindings import Bindings
 from .calling import Calling
 from .effects import Effects
+from .making import Making
 from .model import Connect, Facts
 from .objects import Element, Objects
 from .owning import find_owners
@@ -52,6 +53,7 @@ def link(units: list[Facts], table: Table, roles: str, lean: bool) -> Linked:
     QtWires(program, calling).all()
     calling.events.finish()
     Bindings(program, effects).all()
+    Making(program).all()
     fold(program)
     program.wires = unique_wires(program.wires)
     before = set(program.roles)

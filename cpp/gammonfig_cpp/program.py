@@ -65,6 +65,8 @@ class Wire:
     way: str = 'other'
     # Whether Qt doesn't go this way again before it has come back.
     once: bool = False
+    # The function that connects, where that is known.
+    function: str = ''
 
 
 @dataclass(slots=True)

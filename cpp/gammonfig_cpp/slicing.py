@@ -32,7 +32,7 @@ def _deadly(program: Program, graph: Graph) -> set[Key]:
     those of the same objects are a bit of a number."""
     deaths = list(dict.fromkeys(graph.dying.values()))
     bit_of, order = {dying: 1 << at for at, dying in enumerate(deaths)}, parts(graph.links)
-    to_death = _carried(order, graph.links, {node: bit_of[dying] for node, dying in graph.dying.items()})
+    to_death = carried(order, graph.links, {node: bit_of[dying] for node, dying in graph.dying.items()})
     own_deaths = _own_deaths(program, deaths)
     slots: dict[Link, int] = {node: to_death[node] & own_deaths(node[0]) for node in graph.outs if program.members[node[1]].kind == 'slot'}
     on_way = _handed_on(order, graph.links, slots)
@@ -46,7 +46,7 @@ def _own_deaths(program: Program, deaths: list[frozenset[Element]]) -> Callable[
     return cache(lambda element: sum(1 << at for at, related in enumerate(dying) if related.has(element)))
 
 
-def _carried(order: list[set[Link]], links: dict[Link, list[Link]], own: Mapping[Link, int]) -> dict[Link, int]:
+def carried(order: list[set[Link]], links: dict[Link, list[Link]], own: Mapping[Link, int]) -> dict[Link, int]:
     """What nodes have, and what those have to which they lead."""
     found: dict[Link, int] = {}
     for part in order:

@@ -189,7 +189,7 @@ class Wires:
             self.program.counts['auto connections that are queued: one end was moved to a thread'] += 1
         signal = self.program.signal(usr)
         return [Wire(self.program.role(element), signal, receiver, self.program.fitting(signal, key), how, connect.place,
-                     way=self.holding.way(connect))]
+                     way=self.holding.way(connect), function=connect.function)]
 
     # What connects without `connect`
 

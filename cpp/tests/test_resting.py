@@ -22,6 +22,21 @@ def line_of(name: str, words: str) -> int:
         return next(number for number, line in enumerate(file, 1) if words in line)
 
 
+def test_what_an_object_tells_as_it_is_made_reaches_who_is_connected_by_then() -> None:
+    found = case('making')
+    assert found.body('Store_made') == ['call this.load_2();'] and found.body('load_2') == ['emit added_2(1);']
+    assert [w for w in found.wires() if ' added_2(int)' in w] == ['wire Store added_2(int) -> Store count(int) auto;'], 'and no shop'
+    assert found.body('load', 'Store') == ['emit added(1);'] and 'wire Store added(int) -> Shop fill(int) auto;' in found.wires()
+    assert found.body('Gauge_made') == ['call this.setLevel_2(1);'] and found.body('setLevel_2') == ['emit levelChanged_2(to);'], 'also of a property'
+
+
+def test_of_what_is_made_a_circle_is_told_that_may_be_connected() -> None:
+    told = circles('making').get('error', set())
+    for words in ('new Depot; }', 'new Hall; }', 'new Yard; }', 'new Inn; }', 'new Cow(this); }', 'new Field; }'):
+        assert line_of('making', words) in told, words
+    assert line_of('making', 'Store::instance(); }') not in told
+
+
 def test_an_item_of_a_list_whose_signals_are_blocked_ends_a_circle() -> None:
     told = circles('blocked')
     assert line_of('blocked', 'm_feeds->item(0)') in told['note'] - told['error']
