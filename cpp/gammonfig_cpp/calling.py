@@ -10,6 +10,7 @@ from .grouping import Groups
 from .inner import MODEL
 from .insides import Insides
 from .items import Items
+from .limiting import SETTER, Limits
 from .mapping import MAPPED, Mapping
 from .model import Function, Parameter, Statement, Term, Value
 from .objects import FREE, Element
@@ -36,7 +37,7 @@ class Calling:
         self.deaths = Deaths(program, self)
         self.replacing = Replacing(program, qt, self)
         self.editors, self.items, self.sources, self.insides, self.groups = Editors(self), Items(self.objects), Sources(self), Insides(self), Groups(self)
-        self.events, self.mapping = Events(self), Mapping(self)
+        self.events, self.mapping, self.limits = Events(self), Mapping(self), Limits(self)
         # The classes to whose `destroyed` something is connected; complete once all wires are there.
         self.watched = Related(self.objects, {Element('class', self.objects.cls(e)) for c in self.whole.connects
                                               if c.signal.name.split('(')[0] == 'destroyed'
@@ -155,7 +156,8 @@ class Calling:
                 steps.append(step)
         for signal in entry.emits:
             if signal not in told:
-                steps += self._emit(element, signal, lists)
+                limit = self._limit(element, name, signal, parameters)
+                steps += [limit] if limit is not None else self._emit(element, signal, lists)
         for signal in entry.inside:
             steps += self.insides.steps(element, signal, lists)
         for function in entry.calls:
@@ -196,6 +198,15 @@ class Calling:
         owner = self.program.of_class(self.whole.class_of(usr))
         key = self.program.property((self.whole.class_of(usr), one.name), owner, one.name, parameters[0].sort, self.program.signal(usr), None)
         return Step('set', key, None, (Term('parameter', 0),))
+
+    def _limit(self, element: Element, name: str, signal: str, parameters: list[Parameter]) -> Step | None:
+        """A limit of a property of Qt is set, which may make that the limit; none where that isn't known."""
+        cls = self.objects.cls(element)
+        setter = self.qt.entry(cls, SETTER) if self.limits.tells_limit(element, name) else None
+        written = next((one for one in setter[2] if one.notify == signal), None) if setter is not None else None
+        usr = self.whole.signal(cls, signal) if written is not None else None
+        step = self._write(written, usr, parameters, True) if written is not None and usr is not None else None
+        return step if step is not None and step.kind == 'set' else None
 
     def _emit(self, element: Element, name: str, lists: list[Element]) -> list[Step]:
         whole, program, cls = self.whole, self.program, self.objects.cls(element)

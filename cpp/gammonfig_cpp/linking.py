@@ -57,5 +57,6 @@ def link(units: list[Facts], table: Table, roles: str, lean: bool) -> Linked:
     fold(program)
     program.wires = unique_wires(program.wires)
     before = set(program.roles)
+    program.note_all()
     Pruning(program, lean).all()
     return Linked(program, whole, objects, wires.understood, wires.dropped, before)

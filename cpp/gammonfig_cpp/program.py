@@ -92,6 +92,8 @@ class Program:
         self.folded: set[Key] = set()
         # Slots that run an event loop of their own.
         self.modal: dict[Key, Place] = {}
+        # All members with their steps, and all wires, from before some were left out.
+        self.unpruned: tuple[list[tuple[Member, list[Step]]], list[Wire]] | None = None
         # What statements emit, where members were left out that did.
         self._emitted: set[Key] | None = None
         self._owners: tuple[int, list[tuple[Element, Element, Place]]] | None = None
@@ -99,6 +101,10 @@ class Program:
     def emitted(self) -> set[Key]:
         """The signals that statements emit."""
         return self._emitted if self._emitted is not None else {s.member for m in self.members.values() if not m.library for s in m.steps}
+
+    def note_all(self) -> None:
+        """Keeps in mind what there is, before some of it is left out."""
+        self.unpruned = [(member, member.steps) for member in self.members.values()], self.wires
 
     def leave_out_members(self, kept: set[Key]) -> None:
         """Leaves out members that aren't kept, with the steps, wires and bindings to them. What they emitted is known still."""

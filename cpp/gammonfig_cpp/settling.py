@@ -1,14 +1,18 @@
-"""Circles that hand one value on unchanged, through a property that is set only where it differs: they come to rest.
+"""Circles that hand one value on unchanged, through a property that is set only where it differs: they come to rest. What sets a limit of
+an object to the same number each time goes on once, where nothing else on the circle sets one.
 
 This is told beside a finding, and isn't proved: it holds where the setters that were read as properties really compare."""
 from __future__ import annotations
 
 import re
 
+from .anew import Anew
 from .graph import Graph, Node
 from .graphs import components
+from .limiting import LIMITED, SETTING
 from .model import Term
 from .program import Key, Member, Program, Step
+from .relations import Related
 
 # In the place of a parameter's number: the value is what the property holds that was set last.
 HELD = -1
@@ -17,6 +21,7 @@ HELD = -1
 class Settling:
     def __init__(self, program: Program, graph: Graph) -> None:
         self.program, self.graph = program, graph
+        self.anew = Anew(program)
         self._asked: dict[str, Key | None] = {}
 
     def sets(self) -> list[list[str]]:
@@ -24,6 +29,13 @@ class Settling:
         return [sorted(self.graph.name(n) for n in members) for members in self.graph.components() if self._settles(members)]
 
     def _settles(self, members: set[Node]) -> bool:
+        spent = self._spent(members)
+        rest = {n: [m for m in self.graph.edges[n] if m in members and m not in spent] for n in members - spent} if spent else {}
+        if not all(self._hands_one_value_on(part) for part in (components(rest) if spent else [members])):
+            return False
+        return not self.anew.are_made({n[0] for n in members if n in spent or self._member(n).kind == 'property'}, members)
+
+    def _hands_one_value_on(self, members: set[Node]) -> bool:
         kept = {n for n in members if self._member(n).kind == 'property'}
         if not kept or any(n in self.graph.dying for n in members):
             return False
@@ -31,6 +43,28 @@ class Settling:
             return False
         bound = {b.target for b in self.program.bound}
         return not any(n[1] in bound for n in kept) and self._hands_on(members, kept)
+
+    def _spent(self, members: set[Node]) -> set[Node]:
+        """What sets a limit to one number by each way from the members: the second time it changes nothing. No other limit of the object is
+        set on the way."""
+        setting, found = [n for n in members if self._sets_limit(n)], set[Node]()
+        for node in setting:
+            related = Related(self.program.objects, [node[0]])
+            those = [other for other in setting if related.has(other[0])]
+            given = {number for before in members for other in those if other in self.graph.edges[before] for number in self._numbers(before, other)}
+            if len(given) == 1 and None not in given and len({other[1][3] for other in those}) == 1:
+                found.add(node)
+        return found
+
+    def _sets_limit(self, node: Node) -> bool:
+        """Whether a node is a function of Qt that sets a limit of a value."""
+        whole, cls = self.program.whole, self.program.objects.cls(node[0])
+        return node[1][0] == 'library' and node[1][3] in SETTING and any(whole.is_named(cls, name) for name in (*LIMITED, 'QDoubleSpinBox'))
+
+    def _numbers(self, before: Node, node: Node) -> set[int | None]:
+        """The numbers that a node hands to a function; none where it isn't a number, or isn't alone."""
+        given = [s.terms for s in self._member(before).steps if s.member == node[1]]
+        return {terms[0].index if len(terms) == 1 and terms[0].kind == 'number' else None for terms in given} or {None}
 
     def _member(self, node: Node) -> Member:
         return self.program.members[node[1]]

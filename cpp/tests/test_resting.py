@@ -37,6 +37,20 @@ def test_of_what_is_made_a_circle_is_told_that_may_be_connected() -> None:
     assert line_of('making', 'Store::instance(); }') not in told
 
 
+def test_a_limit_that_is_set_is_a_value_that_is_set() -> None:
+    found = case('limits')
+    assert found.body('setMaximum', 'QSlider_m_slider') == ['emit rangeChanged(0, 0);', 'set this.value = a1;']
+    assert found.body('setMaximum', 'Round_QSpinBox_m_box')[-1] == 'emit valueChanged(0);', 'but of one that goes on at the other end'
+
+
+def test_values_with_limits_come_to_rest() -> None:
+    told = circles('limits')
+    assert line_of('limits', 'slider->setMaximum(value);') in told['note'] - told['error']
+    assert line_of('limits', '&Speed::begin') not in told['error'], 'one number as the least value changes nothing the second time'
+    for words in ('setMaximum(value - 1)', '&QSpinBox::setMaximum', '&Press::squeeze', '&Row::grow', '&Row::add', 'm_other, &QWidget::setWindowTitle'):
+        assert line_of('limits', words) in told['error'], words
+
+
 def test_an_item_of_a_list_whose_signals_are_blocked_ends_a_circle() -> None:
     told = circles('blocked')
     assert line_of('blocked', 'm_feeds->item(0)') in told['note'] - told['error']
