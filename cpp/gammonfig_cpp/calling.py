@@ -10,6 +10,7 @@ from .grouping import Groups
 from .inner import MODEL
 from .insides import Insides
 from .items import Items
+from .lasting import is_of_part
 from .limiting import SETTER, Limits
 from .mapping import MAPPED, Mapping
 from .model import Function, Parameter, Statement, Term, Value
@@ -34,8 +35,7 @@ class Calling:
         self._heard: set[str] | None = None
         self._callbacks: dict[tuple[object, ...], list[tuple[Element, Key]]] = {}
         self._present: dict[str, bool] = {}
-        self.deaths = Deaths(program, self)
-        self.replacing = Replacing(program, qt, self)
+        self.deaths, self.replacing = Deaths(program, self), Replacing(program, qt, self)
         self.editors, self.items, self.sources, self.insides, self.groups = Editors(self), Items(self.objects), Sources(self), Insides(self), Groups(self)
         self.events, self.mapping, self.limits = Events(self), Mapping(self), Limits(self)
         # The classes to whose `destroyed` something is connected; complete once all wires are there.
@@ -88,7 +88,8 @@ class Calling:
             if target is None:
                 continue
             on = None if this and self.program.is_this(element, function) else program.role(element)
-            steps.append(Step('call', target, on, statement.terms, statement.place, statement.conditions))
+            steps.append(Step('call', target, on, statement.terms, statement.place, statement.conditions,
+                              is_part=is_of_part(statement, function.cls, whole)))
         return steps, known
 
     def _static(self, statement: Statement, is_library: bool) -> tuple[list[Step], bool]:
@@ -182,6 +183,8 @@ class Calling:
         if not targets:
             return []
         key = program.posted_by_qt(element, name.replace('::', '_'))
+        # A thread that is started runs, whatever becomes of its object.
+        program.to_itself |= {key} if '::' not in name and name != 'run' else set()
         for on, target in targets:
             program.wires.append(Wire(element, key, on, program.adapted(target, []), 'queued', None, f'Qt posts {name}'))
         return [Step('emit', key)]

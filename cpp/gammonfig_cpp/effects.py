@@ -6,6 +6,7 @@ from dataclasses import replace
 from typing import Callable
 
 from .calling import Calling
+from .lasting import slots_of_sender
 from .model import Field, Function, Named, Statement, Unknown, Value, exclude
 from .objects import FREE, Element
 from .owning import is_of_member
@@ -201,7 +202,10 @@ class Effects:
     def _later(self, statement: Statement, function: Function) -> list[Step]:
         """`deleteLater`: the event loop deletes, which is told where somebody sees it."""
         found = sorted(self.objects.elements(statement.on, statement.cls or function.cls))
-        return [step for element in found for step in self._posted_deletion(element, statement, function)]
+        steps = [step for element in found for step in self._posted_deletion(element, statement, function)]
+        slots = slots_of_sender(statement.on, self.objects)
+        self.program.of_sender.update({step.member: slots for step in steps} if slots else {})
+        return steps
 
     def _posted_deletion(self, element: Element, statement: Statement, function: Function) -> list[Step]:
         program = self.program

@@ -19,14 +19,15 @@ Node = tuple[Element, Key]
 
 @dataclass(frozen=True)
 class Why:
-    """What draws an edge: a place with its conditions, whether an event loop stands between, whether it is a connection, and whether Qt
-    doesn't go there again before it has come back."""
+    """What draws an edge: a place with its conditions, whether an event loop stands between, whether it is a connection, whether Qt doesn't
+    go there again before it has come back, and whether it is a call of a part."""
     place: Place | None
     conditions: tuple[Condition, ...] = ()
     queued: bool = False
     way: str = 'other'
     is_wire: bool = False
     once: bool = False
+    is_part: bool = False
 
 
 class Targets:
@@ -125,7 +126,8 @@ class Graph:
             self.dying[(role, key)] = new if known is None else known | new
 
     def _step(self, key: Key, roles: list[Element], step: Step) -> None:
-        why = Why(step.place, step.conditions, way='other' if step.on or key in self.program.folded else 'same', once=step.once)
+        folded = key in self.program.folded
+        why = Why(step.place, step.conditions, way='other' if step.on or folded else 'same', once=step.once, is_part=step.is_part and not folded)
         of_owner = self.program.members[step.member].owner
         to = self._of_all(step.on, step.member) if step.on is not None else None
         for role in roles:

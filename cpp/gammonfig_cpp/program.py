@@ -19,7 +19,7 @@ MOST_PARAMETERS = 8
 class Step:
     """A statement: `emit`, `call`, `set` or `delete`, on `this` where `on` is None. `is_own`: what is deleted is owned by this object.
     `held`: the property that has been given the parameter 0 where this is emitted. `once`: Qt doesn't do it again before it has come
-    back."""
+    back. `is_part`: what is called is a part of this object, and dies with it."""
     kind: str
     member: Key
     on: Element | None = None
@@ -30,6 +30,7 @@ class Step:
     is_own: bool = False
     held: Key | None = None
     once: bool = False
+    is_part: bool = False
 
     def same(self) -> tuple[object, ...]:
         """What makes two steps one: where it stands plays no part."""
@@ -94,6 +95,9 @@ class Program:
         self.modal: dict[Key, Place] = {}
         # All members with their steps, and all wires, from before some were left out.
         self.unpruned: tuple[list[tuple[Member, list[Step]]], list[Wire]] | None = None
+        # What asks the event loop to delete the sender alone, with the slots that it is the sender in; and what Qt posts to the object itself.
+        self.of_sender: dict[Key, set[str]] = {}
+        self.to_itself: set[Key] = set()
         # What statements emit, where members were left out that did.
         self._emitted: set[Key] | None = None
         self._owners: tuple[int, list[tuple[Element, Element, Place]]] | None = None

@@ -197,7 +197,8 @@ def unique(steps: list[Step]) -> list[Step]:
     """Each step once, where it stands first."""
     found: dict[tuple[object, ...], Step] = {}
     for step in steps:
-        found.setdefault(step.same(), step)
+        known = found.setdefault(step.same(), step)
+        known.is_part = known.is_part and step.is_part
     return list(found.values())
 
 

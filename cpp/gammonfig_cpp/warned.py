@@ -37,7 +37,8 @@ class Warnings:
     """What the reader warned of; the circles that it takes to come to rest, and to go up a tree; where objects delete what they own; what
     is on circles only by the death of an object; the sets of members that lead to one another through an event loop; what Qt itself
     posts, and which steps it doesn't take again before it has come back; whether the program is over the standard limits; by Qt's functions of
-    items the lists that they are in; and circles beside those through blocked signals, each with the members of its set."""
+    items the lists that they are in; circles beside those through blocked signals, each with the members of its set; and the sets of members
+    that lead to one another, but end with an object that dies on the way."""
     found: list[dict[str, Any]]
     resting: list[set[str]]
     climbing: list[set[str]]
@@ -49,6 +50,7 @@ class Warnings:
     wide: bool
     lists: dict[str, list[str]] = field(default_factory=dict)
     unblocked: list[tuple[set[str], dict[str, Any]]] = field(default_factory=list)
+    ending: list[set[str]] = field(default_factory=list)
 
     @staticmethod
     def read(path: str) -> Warnings:
@@ -58,12 +60,12 @@ class Warnings:
             own = {(str(file), int(line), int(column)) for file, line, column in told['own']}
             resting = [set(names) for names in told['resting']]
             climbing = [set(names) for names in told['climbing']]
-            circling = [set(names) for names in told['circling']]
+            circling, ending = ([set(names) for names in told[word]] for word in ('circling', 'ending'))
             once = {(str(one), str(two)) for one, two in told['once']}
             lists = {str(name): [str(it) for it in those] for name, those in told['lists'].items()}
             unblocked = [(set(each['members']), dict(each['finding'])) for each in told['unblocked']]
             return Warnings(told['findings'], resting, climbing, own, set(told['by_death']), circling, set(told['by_qt']), once, bool(told['wide']), lists,
-                            unblocked)
+                            unblocked, ending)
         except (OSError, ValueError, KeyError, TypeError, AttributeError) as wrong:
             raise ReadError(f'{path}: the warnings can\'t be read: read the application again') from wrong
 
@@ -71,7 +73,7 @@ class Warnings:
         """Adds the warnings, but for slots that the verdict has itself (of circles one for each set stays); and tells of circles that come to rest. That what Qt posts to an
         object is dropped with it isn't told: so Qt does it with each event; nor are wires that another covers, and that nothing is left to
         judge."""
-        verdict.findings = [f for f in verdict.findings if f.rule not in (COVERED, EMPTY)
+        verdict.findings = [f for f in verdict.findings if f.rule not in (COVERED, EMPTY) and not self._ends(f)
                             and (f.rule != 'deletes-connected' or not {s.from_ for s in f.chain} & self.by_qt)]
         self._add_unblocked(verdict)
         entered = {f.chain[-1].to for f in verdict.findings if f.rule == RE_ENTRY and f.chain}
@@ -120,6 +122,11 @@ class Warnings:
                 if later.is_later:
                     break
         return False
+
+    def _ends(self, finding: Finding) -> bool:
+        """Whether a circle through an event loop ends with an object that dies on it."""
+        names = {step.from_ for step in finding.chain}
+        return finding.rule == 'queued-cycle' and bool(names) and any(names <= known for known in self.ending)
 
     def _is_of_own(self, finding: Finding) -> bool:
         """Whether a slot deletes by a statement of its own what its object owns: no other object stands between."""

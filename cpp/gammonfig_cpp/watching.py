@@ -7,6 +7,7 @@ import json
 
 from .climbing import Climbing
 from .graph import Graph, Node, Why
+from .lasting import Lasting
 from .naming import Naming
 from .places import Places
 from .program import Program
@@ -21,6 +22,11 @@ class Watching:
     def __init__(self, program: Program, names: Naming, places: Places) -> None:
         self.program, self.places = program, places
         self.graph = Graph(program, names, queued=True)
+        self.circles = self.graph.components()
+        self.by_death = self._by_death()
+        lasting = Lasting(program, self.graph)
+        # Those of them that end with an object that dies on the way.
+        self.ending = [members for members in self.circles if members <= self.by_death and not lasting.goes_on(members)]
 
     def text(self, wide: bool = False) -> str:
         """The warnings, as the findings of a verdict in JSON; and whether commands take the program with `--wide` alone."""
@@ -28,7 +34,8 @@ class Watching:
         resting = Settling(self.program, direct).sets()
         found = sorted(self._queued_cycles() + self._re_entries(), key=lambda f: [str(f.get(k, '')) for k in ('rule', 'file')]
                        + [f"{f.get('line', 0):>9}", str(f['message'])])
-        told = {'findings': found, 'resting': resting, 'climbing': Climbing(direct).sets(), 'own': self._own(), 'by_death': self._by_death(),
+        told = {'findings': found, 'resting': resting, 'climbing': Climbing(direct).sets(), 'own': self._own(),
+                'by_death': self._names(self.by_death), 'ending': [self._names(members) for members in self.ending],
                 'circling': self._circling(), 'by_qt': self._by_qt(), 'once': self._once(), 'wide': wide, 'lists': self._lists(),
                 'unblocked': self._unblocked(direct)}
         return json.dumps(told, indent=1, ensure_ascii=False) + '\n'
@@ -39,18 +46,20 @@ class Watching:
                   for s in m.steps if s.is_own and s.place is not None}
         return [list(place) for place in sorted(places)]
 
-    def _by_death(self) -> list[str]:
+    def _names(self, members: set[Node]) -> list[str]:
+        return sorted(self.graph.name(node) for node in members)
+
+    def _by_death(self) -> set[Node]:
         """Members that lead back to themselves, but only by what runs because an object dies."""
         functions = self.program.whole.functions
         # Of a function whose source isn't read nothing is known but its name.
         destructors = {key for key, function in functions.items() if function.kind == 'destructor'}
         dying = {node for node in self.graph.outs if node[1][0] in ('with', 'later') or (node[1][0] == 'function' and node[1][1] in destructors)}
-        circling = set[Node]().union(*self.graph.components())
-        return sorted(self.graph.name(node) for node in circling.difference(*self.graph.components(dying)))
+        return set[Node]().union(*self.circles).difference(*self.graph.components(dying))
 
     def _circling(self) -> list[list[str]]:
         """The sets of members that lead to one another and in which an event loop is gone through."""
-        return [sorted(self.graph.name(node) for node in members) for members in self.graph.components()
+        return [self._names(members) for members in self.circles
                 if any(why.queued and not members.isdisjoint(to.nodes) for node in members for why, to in self.graph.outs[node])]
 
     def _by_qt(self) -> list[str]:
@@ -112,10 +121,10 @@ class Watching:
         return found
 
     def _queued_cycles(self) -> list[dict[str, object]]:
-        """A shortest circle with a queued step of each set of members that lead to one another; one through blocked signals, where there
-        is no other."""
+        """A shortest circle with a queued step of each set of members that lead to one another and don't end; one through blocked signals,
+        where there is no other."""
         found, free = [], self.graph.without('blocked by')
-        for members in self.graph.components():
+        for members in (it for it in self.circles if it not in self.ending):
             best = self._shortest(free, members) or self._shortest(self.graph, members)
             if best is not None:
                 name = self.graph.name(best[0])

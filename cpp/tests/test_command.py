@@ -182,7 +182,7 @@ def test_an_object_that_deletes_its_own(written: pathlib.Path, tmp_path: pathlib
 
 
 def test_a_circle_by_deaths(written: pathlib.Path, tmp_path: pathlib.Path) -> None:
-    """A circle through an event loop that goes only by deaths is a note: each object dies once."""
+    """A circle through an event loop that goes only by deaths is a note: each object dies once. One that ends so isn't told."""
     shutil.copytree(written / 'out', tmp_path / 'out')
     path = tmp_path / 'out/app.warnings.json'
     named = checker(tmp_path, line_of(written, 'delete this;'), 'queued-cycle', 'warning')
@@ -190,6 +190,8 @@ def test_a_circle_by_deaths(written: pathlib.Path, tmp_path: pathlib.Path) -> No
     path.write_text(json.dumps(json.loads(path.read_text()) | {'by_death': ['Desk.end()']}))
     told = run(tmp_path, '--verdict', 'out', GAMMONFIG=named).stdout
     assert ': note: m [queued-cycle]' in told and 'each dies once' in told
+    path.write_text(json.dumps(json.loads(path.read_text()) | {'ending': [['Desk.begin()'], ['Desk.end()', 'Desk.more()']]}))
+    assert 'queued-cycle' not in run(tmp_path, '--verdict', 'out', GAMMONFIG=named).stdout
 
 
 def test_one_note_for_each_tree(written: pathlib.Path, tmp_path: pathlib.Path) -> None:
