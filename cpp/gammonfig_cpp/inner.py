@@ -1,5 +1,5 @@
 """Objects that Qt makes in others, one in each: the selection of a view, the line edit of a box, the model of a list, table or tree of
-items. Another one may be handed over."""
+items, and what stands for the relations of a table. Another one may be handed over."""
 from __future__ import annotations
 
 from collections import defaultdict
@@ -27,7 +27,9 @@ OF_VIEWS = Kind(VIEW, SELECTION, GIVING[0], 'setSelectionModel', 'selection')
 OF_BOXES = tuple(Kind(box, 'QLineEdit', GIVING[1], 'setLineEdit', 'line') for box in ('QComboBox', 'QAbstractSpinBox'))
 # Views whose model of items is of their own making: they take no other.
 OF_ITEMS = tuple(Kind(view, MODEL, GIVING[2], '', 'model') for view in ('QListWidget', 'QTableWidget', 'QTreeWidget'))
-KINDS = (OF_VIEWS, *OF_BOXES, *OF_ITEMS)
+# The tables that a table of a database refers to, each a model of the other's own making.
+OF_RELATIONS = Kind('QSqlRelationalTableModel', 'QSqlTableModel', GIVING[3], '', 'relation')
+KINDS = (OF_VIEWS, *OF_BOXES, *OF_ITEMS, OF_RELATIONS)
 
 
 class Inner:

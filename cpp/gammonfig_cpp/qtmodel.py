@@ -17,7 +17,7 @@ TAKING = {'addWidget', 'insertWidget', 'setCentralWidget', 'setWidget', 'addTab'
 # Functions of which the reader knows what they mean, beside the table.
 KNOWN = TAKING | {'addAction', 'setParent', 'setObjectName', 'setAttribute', 'callOnTimeout'}
 # Functions that give what Qt made in an object, one in each.
-GIVING = ('selectionModel', 'lineEdit', 'model')
+GIVING = ('selectionModel', 'lineEdit', 'model', 'relationModel')
 LINE = re.compile(r'(\w+)\.(~?\w+)\s+(.+)$')
 CLAUSES = ('emits', 'inside', 'rarely', 'again', 'calls', 'posts', 'deletes', 'later', 'owns', 'lays', 'owner', 'takes', 'needs')
 WIRE = re.compile(r'wire\s+(\w+)\.(\w+)\s*->\s*(\w+)\.(\w+)(?:\s+by\s+(\w+))?(\s+once)?$')

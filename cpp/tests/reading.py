@@ -26,7 +26,7 @@ from gammonfig_cpp.writing import Writing, Written  # noqa: E402
 
 
 # The modules of Qt that cases need beyond its core.
-MODULES = {'handing.cpp': 'Qt6Concurrent', **dict.fromkeys(('answers.cpp', 'visits.cpp'), 'Qt6Network'),
+MODULES = {'handing.cpp': 'Qt6Concurrent', 'relations.cpp': 'Qt6Sql', **dict.fromkeys(('answers.cpp', 'visits.cpp'), 'Qt6Network'),
            **dict.fromkeys(('asked.cpp', 'blocked.cpp', 'boxes.cpp', 'documents.cpp', 'ends.cpp', 'events.cpp', 'groups.cpp',
                             'items.cpp', 'limits.cpp', 'mapping.cpp', 'models.cpp', 'owners.cpp', 'progress.cpp', 'reentries.cpp',
                             'selections.cpp', 'views.cpp', 'widgets.cpp'), 'Qt6Widgets')}

@@ -52,3 +52,10 @@ def test_an_item_tells_by_the_model_that_a_box_made() -> None:
 
 def test_a_box_tells_of_its_line_edit_where_nobody_asks_for_that() -> None:
     assert case('boxes').body('clear', 'QComboBox') == ['call this.to_QComboBox.emit_editTextChanged("");']
+
+
+def test_models_of_relations_are_of_a_table_s_own_making() -> None:
+    found = case('relations')
+    assert 'wire QSqlTableModel_m_albums_relation modelReset() -> Archive choose() auto;' in found.wires()
+    assert found.body('choose') == ['call this.to_QSqlRelationalTableModel.setFilter("");'], 'that resets another model'
+    assert found.body('forget') == ['call this.to_QSqlTableModel_m_albums_relation.clear();']
