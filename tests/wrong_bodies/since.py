@@ -1,5 +1,6 @@
 #!/usr/bin/env python3
-"""Tries which crates `run.py --since COMMIT` finds changed, in a repository of its own. The last line is `N passed, M failed`."""
+"""Tries which crates `run.py --since COMMIT` finds changed, in a repository of its own, and which ones it takes along to prove
+them. The last line is `N passed, M failed`."""
 import os
 import subprocess
 import sys
@@ -23,6 +24,10 @@ TRIED = (
     (("tests/wrong_bodies/five/b.edit",), {"five"}),
     (("crates/six/src/lib.rt", "crates/six/out/program"), {"six"}),
 )
+
+# What some crates stand on, and which ones are taken along with these.
+BELOW = {"low": ["kit"], "middle": ["low"], "beside": ["low"], "top": ["middle", "low", "kit"]}
+TAKEN_ALONG = ((["low"], {"low"}), (["top"], {"top", "middle", "low"}), (["beside", "middle"], {"beside", "middle", "low"}))
 
 
 def write(root, names, text):
@@ -49,7 +54,12 @@ def main():
         if found != wanted:
             failed += 1
             print(f"{' '.join(names) or 'nothing'}: found {sorted(found)}, wanted {sorted(wanted)}")
-    print(f"{len(TRIED) - failed} passed, {failed} failed")
+    for names, wanted in TAKEN_ALONG:
+        found = run.with_those_below(names, BELOW)
+        if found != wanted:
+            failed += 1
+            print(f"along with {' '.join(names)}: {sorted(found)}, wanted {sorted(wanted)}")
+    print(f"{len(TRIED) + len(TAKEN_ALONG) - failed} passed, {failed} failed")
     return failed
 
 
