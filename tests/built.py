@@ -21,8 +21,8 @@ PATIENCE = 120
 # Of the build by Rattle's own compiler it wasn't measured.
 STACK, OWN_STACK = 1 << 20, 4 << 20
 # After so many seconds no piece of work is begun any more, and the driver fails: on a machine with nothing else to do all of it is
-# done in half of them.
-LIMIT = int(os.environ.get("LIMIT") or 900)
+# done in a quarter of them, and a host that others share was seen to take three times as long.
+LIMIT = int(os.environ.get("LIMIT") or 1800)
 # How an explanation on standard error begins, which says what the output's last line is.
 EXPLAINED = re.compile(rb"(usage|memory|refused \d+|fault \d+|no \d+|no)\b")
 # What is told beside a yes: warnings, and but for runs how deep the chains go.
