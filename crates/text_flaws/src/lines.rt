@@ -54,10 +54,10 @@ fn trail_of_event(alloc: Global, line: &[u8]) -> Result<Trail, AllocError> {
 }
 
 /// What is wrong with a line through which the reader went so.
-pub fn line_flaw(
+pub fn line_flaw<'t>(
     alloc: Global,
-    source: TokenizedText,
-    trail: &Trail,
+    source: TokenizedText<'t>,
+    trail: &'t Trail,
     is_certificate: bool,
 ) -> Result<Option<Flaw>, AllocError> {
     if trail.farthest() < source.tokens.len() || !is_among(&Wanted::End, trail.wanted()) {
