@@ -13,6 +13,7 @@ mod parameter_types;
 mod qtype;
 mod shared;
 mod shared_bytes;
+mod short_bytes;
 mod sig;
 mod text;
 mod value;

@@ -3,6 +3,7 @@
 
 mod event;
 mod fault;
+mod known;
 mod limits;
 mod reader;
 mod syntax;

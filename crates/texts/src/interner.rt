@@ -14,6 +14,9 @@ const LONG: usize = 1 << 16;
 
 const VERY_LONG: usize = 1 << 19;
 
+/// Spreads the bytes over a number by one multiplication for each: an odd number with few bits, as that of FNV's hash.
+const SPREAD: u32 = 0x0100_0193;
+
 /// Gives shared bytes. Where the same ones were asked for a short time ago, it gives those, and takes no memory.
 pub struct Interner {
     alloc: Global,
@@ -37,7 +40,16 @@ impl Interner {
     }
 
     /// These bytes, shared.
+    #[inline(never)]
     pub fn share(&mut self, bytes: &[u8]) -> Result<SharedBytes, AllocError>
+        ensures { IfOk result (λ shared. shared ≡ bytes.now) }
+    {
+        self.share_often(bytes)
+    }
+
+    /// These bytes, shared, as `share` gives them, for where that is done most.
+    #[inline(always)]
+    pub fn share_often(&mut self, bytes: &[u8]) -> Result<SharedBytes, AllocError>
         ensures { IfOk result (λ shared. shared ≡ bytes.now) }
     {
         let at = self.place_of(bytes);
@@ -52,7 +64,7 @@ impl Interner {
     fn place_of(&self, bytes: &[u8]) -> usize {
         let mut number = 0u32;
         for byte in bytes {
-            number = number.wrapping_mul(31).wrapping_add(u32::from(*byte));
+            number = number.wrapping_mul(SPREAD).wrapping_add(u32::from(*byte));
         }
         number as usize & self.places.len().wrapping_sub(1)
     }

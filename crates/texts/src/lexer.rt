@@ -203,7 +203,7 @@ fn word_or_name(interner: &mut Interner, letters: &[u8]) -> Result<Token, AllocE
     match Word::of(letters) {
         Some(word) => Ok(Token::Word(word)),
         None => {
-            let shared = interner.share(letters)?;
+            let shared = interner.share_often(letters)?;
             Ok(Token::Name(Name::sharing(shared)))
         }
     }

@@ -9,6 +9,7 @@ use memchr::memchr;
 const NEWLINE: u8 = 10;
 
 /// The line at the front of the text, without its newline, and what follows it; `None` where no text is left.
+#[inline(always)]
 pub fn split_line(text: &[u8]) -> Option<(&[u8], &[u8])>
     ensures line { SplitsLine text.now result }
     ensures shorter { IfSome result (λ parts. length parts.1.now < length text.now) }

@@ -1,6 +1,6 @@
 //! Lists, in parentheses or behind a word.
 
-ghost use Rattle.std.specs.Prelude.{◌<◌, ◌≤◌, List, length, OnOk};
+ghost use Rattle.std.specs.Prelude.{◌≡◌, [], ◌∷◌, ◌<◌, ◌≤◌, List, length, IfOk, OnOk};
 ghost use Rattle.token_reading.specs.code.Lists.{EndsAtComma, IsPart, ReadsParts, ReadsList, ReadsAfter};
 ghost use Rattle.token_reading.specs.code.Reading.{Reads};
 ghost use Rattle.texts.specs.declared.token.Token.{Token};
@@ -9,7 +9,8 @@ use crate::cursor::Cursor;
 use crate::fault::ParseFault;
 use basic_types::Word;
 use sqlite_items::Items;
-use texts::Symbol;
+use std::alloc::AllocError;
+use texts::{Symbol, Token};
 
 /// A rule of a grammar by which the parts of a list, or the objects at the ends of a connection, are read.
 pub trait Part {
@@ -36,7 +37,7 @@ pub trait Part {
         ensures shorter { OnOk result (length cursor.new < length cursor.old) };
 }
 
-/// A list has room at first for so many parts. Most have no more.
+/// A list has room for so many parts once there is a second one. Most have no more.
 const MOSTLY: usize = 2;
 
 /// `part {"," part}`
@@ -49,13 +50,26 @@ fn parts<P: Part>(cursor: &mut Cursor) -> Result<Items<P::Tree>, ParseFault>
     ensures reads { ReadsParts P.spell P.tree P.Ends cursor.old result cursor.new }
     ensures shorter { OnOk result (length cursor.new < length cursor.old) }
 {
-    let mut parts = Items::from_vec(Vec::with_capacity(cursor.alloc(), MOSTLY)?);
     let first = P::read(cursor)?;
-    parts.push(first)?;
+    let mut parts = begun(cursor, first)?;
     while cursor.eat(Symbol::Comma) {
         let part = P::read(cursor)?;
         parts.push(part)?;
     }
+    Ok(parts)
+}
+
+/// The list of the first part, behind which the cursor is: it has room for more where a comma follows.
+#[inline(always)]
+fn begun<T: Drop>(cursor: &Cursor, first: T) -> Result<Items<T>, AllocError>
+    ensures { IfOk result (λ parts. parts ≡ first ∷ []) }
+{
+    let room = match cursor.rest().first() {
+        Some(Token::Symbol(Symbol::Comma)) => MOSTLY,
+        _ => 1,
+    };
+    let mut parts = Items::from_vec(Vec::with_capacity(cursor.alloc(), room)?);
+    parts.push(first)?;
     Ok(parts)
 }
 

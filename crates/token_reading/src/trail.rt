@@ -28,6 +28,13 @@ pub struct Begun {
 /// The way of a reader through tokens. Where memory was refused it isn't whole.
 #[derive(Drop)]
 pub struct Trail {
+    /// What was noted, apart, so that a cursor that doesn't record is small; none where there was no memory for it.
+    notes: Option<Box<Notes>>,
+}
+
+/// What a trail notes.
+#[derive(Drop)]
+struct Notes {
     alloc: Global,
     total: usize,
     farthest: usize,
@@ -39,40 +46,75 @@ pub struct Trail {
 impl Trail {
     /// The way that begins in front of so many tokens.
     pub(crate) fn new(alloc: Global, total: usize) -> Trail {
-        Trail {
+        let notes = Notes {
             alloc,
             total,
             farthest: 0,
             wanted: Items::new(alloc),
             begun: Items::new(alloc),
             is_whole: true,
+        };
+        Trail {
+            notes: Box::new(alloc, notes).ok(),
         }
     }
 
     /// The farthest place at which a token was looked for, by the number of that token, counted from 0; where the reader
     /// stopped, it is the token that it refused, or the end.
     pub fn farthest(&self) -> usize {
-        self.farthest
+        match &self.notes {
+            Some(notes) => notes.farthest,
+            None => 0,
+        }
     }
 
     /// What was looked for there, in the order of the looking; one thing may stand there twice.
     pub fn wanted(&self) -> &[Wanted] {
-        self.wanted.as_slice()
+        match &self.notes {
+            Some(notes) => notes.wanted.as_slice(),
+            None => &[],
+        }
     }
 
     /// The parts that were begun, in the text's order.
     pub fn begun(&self) -> &[Begun] {
-        self.begun.as_slice()
+        match &self.notes {
+            Some(notes) => notes.begun.as_slice(),
+            None => &[],
+        }
     }
 
     /// Whether all was noted; it wasn't where a growth of memory was refused.
     pub fn is_whole(&self) -> bool {
-        self.is_whole
+        match &self.notes {
+            Some(notes) => notes.is_whole,
+            None => false,
+        }
     }
 
-    /// Notes what is looked for where so many tokens are left.
+    /// Notes each of what is looked for where so many tokens are left.
     #[cold]
     #[inline(never)]
+    fn want_each(&mut self, left: usize, wanted: &[Wanted]) {
+        if let Some(notes) = &mut self.notes {
+            for one in wanted {
+                notes.want(left, *one);
+            }
+        }
+    }
+
+    /// Notes that the part begins where so many tokens are left.
+    #[cold]
+    #[inline(never)]
+    fn begin(&mut self, left: usize, landmark: Landmark) {
+        if let Some(notes) = &mut self.notes {
+            notes.begin(left, landmark);
+        }
+    }
+}
+
+impl Notes {
+    /// Notes what is looked for where so many tokens are left.
     fn want(&mut self, left: usize, wanted: Wanted) {
         let at = self.total.saturating_sub(left);
         if at < self.farthest {
@@ -87,18 +129,7 @@ impl Trail {
         }
     }
 
-    /// Notes each of what is looked for where so many tokens are left.
-    #[cold]
-    #[inline(never)]
-    fn want_each(&mut self, left: usize, wanted: &[Wanted]) {
-        for one in wanted {
-            self.want(left, *one);
-        }
-    }
-
     /// Notes that the part begins where so many tokens are left.
-    #[cold]
-    #[inline(never)]
     fn begin(&mut self, left: usize, landmark: Landmark) {
         let at = self.total.saturating_sub(left);
         if self.begun.push(Begun { landmark, at }).is_err() {
@@ -111,7 +142,7 @@ impl Trail {
 #[inline(always)]
 pub fn want(trail: &mut Option<Trail>, left: usize, wanted: Wanted) {
     if let Some(trail) = trail {
-        trail.want(left, wanted);
+        trail.want_each(left, &[wanted]);
     }
 }
 

@@ -2,9 +2,9 @@ use Rattle.std.proofs.Common.{arith}
 use Rattle.script_lang.proofs.Scripts.{event_next, empty_next}
 use Rattle.script_lang.proofs.reader.read_script.Goals as goal
 
-pub loop-line-preserved-in_ok-push-in-Ok-Some : goal.loop-line-preserved-in_ok-push-in-Ok-Some
-loop-line-preserved-in_ok-push-in-Ok-Some c = record {
-  so_far = rw c.in_ok-push-in-Ok-Some.ensures.ok (event_next c.loop-line.invariant.so_far c.in-Some.ensures.line (rw c.in-Ok-Some.field-0-is at c.in-Ok-Some.ensures));
+pub loop-line-preserved-in_ok-add-in-Ok-Some : goal.loop-line-preserved-in_ok-add-in-Ok-Some
+loop-line-preserved-in_ok-add-in-Ok-Some c = record {
+  so_far = rw c.in_ok-add-in-Ok-Some.ensures (event_next c.loop-line.invariant.so_far c.in-Some.ensures.line (rw c.in-Ok-Some.field-0-is at c.in-Ok-Some.ensures));
   room = omega (arith, c.in-Some.ensures.shorter);
 }
 

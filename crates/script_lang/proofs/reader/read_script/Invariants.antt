@@ -4,7 +4,7 @@ use Rattle.script_lang.proofs.reader.read_script.Given as goal
 
 abbrev pub invariant-loop-line : goal.invariant-loop-line
 invariant-loop-line l = record {
-  so_far : LinesSoFar l.fn.bytes l.events l.number l.rest;
+  so_far : LinesSoFar l.fn.bytes l.events.items l.number l.rest;
   room : l.number + length l.rest ≤ length l.fn.bytes;
 }
 
