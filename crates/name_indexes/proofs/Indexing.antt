@@ -1,5 +1,5 @@
 -- Making an index of a list from its front.
-use Rattle.std.proofs.Common.{◌≡◌, ℕ, zero, suc, ◌<◌, ◌≤◌, ◌+◌, List, [], ◌∷◌, length, take, get_or, set, slice_get, Option, Some, None, MatchOption, ◌⊎◌, inl, inr, Bool, true, false, refl, sym, ap, ◌∙◌, subst, arith, below_more}
+use Rattle.std.proofs.Common.{◌≡◌, ℕ, zero, suc, ◌<◌, ◌≤◌, ◌+◌, List, [], ◌∷◌, ◌++◌, length, take, get_or, set, slice_get, Option, Some, None, MatchOption, ◌⊎◌, inl, inr, Bool, true, false, refl, sym, ap, ◌∙◌, subst, arith, below_more}
 use Rattle.std.specs.Prelude.{nat_eq}
 use Rattle.std.specs.Option.{unwrap_or, option_and_then, option_or}
 use Rattle.std.specs.Cmp.Lexicographic.{pointwise, bytes_decides}
@@ -36,7 +36,7 @@ module _ {X : Type 0} (P : X → Type 0) (xs : List X) where
   place_all i past (Some k) before = before
 
 -- two names are one, or they aren't
-same_name : (name other : List ℕ) → (other ≡ name) ⊎ (¬ (other ≡ name))
+pub same_name : (name other : List ℕ) → (other ≡ name) ⊎ (¬ (other ≡ name))
 same_name name other = by (pointwise nat_eq other name) refl
   where
     by : (b : Bool) → pointwise nat_eq other name ≡ b → (other ≡ name) ⊎ (¬ (other ≡ name))
@@ -91,6 +91,13 @@ module _ (indexes : List Index) (count : ℕ) (index : Index) where
 -- what the index for so many parameters says
 by_of : (indexes : List Index) (count : ℕ) (d : Index) → count < length indexes → (name : List ℕ) → place_at indexes count name ≡ place_in (get_or indexes count d) name
 by_of indexes count d inside name = ap (option_and_then (λ (o : Index). place_in o name)) (slice_get-get_or indexes count d inside)
+
+-- an empty index more has no name
+pub empty_more : (indexes : List Index) (k : ℕ) (name : List ℕ) → place_at (indexes ++ [] ∷ []) k name ≡ place_at indexes k name
+empty_more [] zero name = refl
+empty_more [] (suc k) name = refl
+empty_more (index ∷ indexes) zero name = refl
+empty_more (index ∷ indexes) (suc k) name = empty_more indexes k name
 
 -- ---- one call more
 -- in the index for as many parameters
@@ -161,6 +168,13 @@ module _ {X : Type 0} (name_of : X → List ℕ) (count_of : X → ℕ) (xs : Li
   -- an empty layer in front of the index of a front
   pub calls_from : (n : ℕ) (base : Layers) → IndexesCalls name_of count_of (take n xs) base → ArePlacedBefore name_of count_of xs n (place_by ([] ∷ base))
   calls_from n base ix name count = front_before (IsCalled name_of count_of name count) n xs (place_by base count name) (ix name count)
+
+  -- empty indexes more
+  pub calls_same : (i : ℕ) (own grown : List Index) (base : Layers) → SamePlaces own grown → ArePlacedBefore name_of count_of xs i (place_by (own ∷ base))
+      → ArePlacedBefore name_of count_of xs i (place_by (grown ∷ base))
+  calls_same i own grown base same before name count =
+      subst (IsPlaceBefore (IsCalled name_of count_of name count) xs i)
+      (sym (ap (λ (o : Option ℕ). option_or o (place_by base count name)) (same count name))) (before name count)
 
   -- one element more
   pub calls_more : (i : ℕ) (x : X) → i < length xs → x ≡ get_or xs i x → (old new : ℕ → List ℕ → Option ℕ) → AddsCall (name_of x) (count_of x) i old new

@@ -5,3 +5,4 @@ pub mod Once
 pub mod Prefixes
 pub mod Indexing
 pub mod Layers
+pub mod Marks

@@ -4,7 +4,9 @@
 
 mod call_index;
 mod called;
+mod layer;
 mod name_index;
+mod name_marks;
 mod twins;
 
 pub use call_index::{CallIndex, index_all, index_calls};

@@ -1,4 +1,4 @@
-ghost use Rattle.std.specs.Prelude.{◌≡◌, [], OnOk, OnErr};
+ghost use Rattle.std.specs.Prelude.{◌≡◌, [], IfOk, OnOk, OnErr};
 ghost use Rattle.name_indexes.specs.NamePlaces.{place_in, Adds};
 
 use basic_types::Name;
@@ -35,16 +35,24 @@ impl NameIndex {
         }
     }
 
+    /// An index without names, which has memory for so many. The error is that memory was refused.
+    pub fn with_room(alloc: Global, names: usize) -> Result<NameIndex, AllocError>
+        ensures { IfOk result (λ index. index ≡ []) }
+    {
+        if names == 0 {
+            return Ok(NameIndex::new(alloc));
+        }
+        let places = HashMap::with_capacity(alloc, names)?;
+        Ok(NameIndex { places })
+    }
+
     /// Gives a name a place; a name that has one keeps it. The error is that memory was refused: then nothing changes.
     pub fn insert(&mut self, name: &Name, place: usize) -> Result<(), AllocError>
         ensures ok { OnOk result (Adds name.now place self.old self.new) }
         ensures err { OnErr result (self.new ≡ self.old) }
     {
-        if self.find(name).is_some() {
-            return Ok(());
-        }
         let name = name.copy()?;
-        self.places.insert(name, place)?;
+        self.places.entry(name)?.or_insert(place);
         Ok(())
     }
 

@@ -8,13 +8,13 @@ pub loop-layer-preserved : goal.loop-layer-preserved
 loop-layer-preserved c =
     c.loop-layer.invariant
     ∙ next_layer c.args.layers.now c.loop-layer.layer-index c.layer-item.result c.loop-layer-test.true c.layer-item.is c.args.count c.args.name.now
-    (sym (rw (c.as_slice.ensures, c.get.ensures) at c.in_default.ensures))
+    (sym (rw c.get.ensures at c.in_default.ensures))
 
 pub returns-in-Some : goal.returns-in-Some
 returns-in-Some c =
     sym (c.loop-layer.invariant
     ∙ this_layer c.args.layers.now c.loop-layer.layer-index c.layer-item.result c.loop-layer-test.true c.layer-item.is c.args.count c.args.name.now c.in-Some.place
-    (sym (rw (c.as_slice.ensures, c.get.ensures) at c.in-Some.ensures)))
+    (sym (rw c.get.ensures at c.in-Some.ensures)))
 
 pub returns : goal.returns
 returns c =
