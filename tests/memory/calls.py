@@ -26,9 +26,9 @@ LENT = set(
 # is shared, or has room already.
 FREE = set(b"nesting unfit_wire new_tree new_connections new_bindings natives".split())
 MAY_BE_FREE = set(b"value_copy eval_sum type_of adopt connect add post schedule checked unchecked nodes destroys".split())
-# Those on a scan that was just made: its rows give back the room that they don't need, and do without where that is refused.
-# For any other request that is refused they answer as the others do.
-SHRUNK = set(b"scan edges nodes destroys make check".split())
+# Those on a scan that was just made, whose rows give back the room that they don't need, and do without where that is refused;
+# and the reader of a certificate, whose lines do so. For any other request that is refused they answer as the others do.
+SHRUNK = set(b"scan edges nodes destroys make check read_certificate".split())
 # Those that note on the way what they look up, and look at more where that is refused.
 NOTING = set(b"move_tree".split())
 # The scripts of its runs.

@@ -1,6 +1,6 @@
 //! Reads a certificate, line by line.
 
-ghost use Rattle.std.specs.Prelude.{ℕ, List, ◌<◌, length, IfOk, IfSome};
+ghost use Rattle.std.specs.Prelude.{◌≡◌, ℕ, List, [], ◌∷◌, ◌++◌, ◌<◌, length, IfOk, IfSome, OnOk};
 ghost use Rattle.certificate_lang.specs.Reads.{ReadsCertificate, HasOneCertificate};
 ghost use Rattle.certificate_lang.specs.code.Reads.{SplitsRow, SplitsSetting, ReadsNodeLines, ReadsWholeSetting, ReadsLine};
 
@@ -9,7 +9,7 @@ use crate::fault::CertificateFault;
 use crate::syntax::{has_few_parameters, line, read_setting};
 use crate::version::Version;
 use sqlite_items::Items;
-use std::alloc::Global;
+use std::alloc::{AllocError, Global};
 use texts::{Lexer, Token, split_line};
 use token_reading::{Cursor, Trail, has_plain_reference};
 
@@ -65,14 +65,25 @@ fn node_lines(
 ) -> Result<Items<Line>, CertificateFault>
     ensures { ReadsNodeLines version text.now result }
 {
-    let mut lines = Items::new(alloc);
+    let mut lines = Vec::new(alloc);
     let mut rest = text;
     while let Some(after) = next_row(lexer, rest)? {
         let line = node_line(alloc, version, lexer.tokens())?;
-        lines.push(line)?;
+        add(&mut lines, line)?;
         rest = after;
     }
-    Ok(lines)
+    // They are kept while the program is checked, which takes more memory.
+    lines.shrink_to_fit();
+    Ok(Items::from_vec(lines))
+}
+
+/// Adds the line to the end.
+#[inline(always)]
+fn add(lines: &mut Vec<Line>, line: Line) -> Result<(), AllocError>
+    ensures { OnOk result (lines.new.items ≡ lines.old.items ++ line ∷ []) }
+{
+    lines.push(line)?;
+    Ok(())
 }
 
 /// Cuts the first line that isn't empty: the lexer has its tokens then. What follows the line; or `None` where all are empty.

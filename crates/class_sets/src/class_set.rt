@@ -58,6 +58,7 @@ impl ClassSet {
     }
 
     /// For how many classes there is room.
+    #[inline(always)]
     pub fn room(&self) -> usize
         ensures { result ≡ length self.now }
     {
@@ -74,6 +75,7 @@ impl ClassSet {
     }
 
     /// Whether the class is in the set.
+    #[inline(always)]
     pub fn contains(&self, class: usize) -> bool
         ensures { IsTrue result ↔ IsMarked self.now class }
     {
@@ -113,6 +115,7 @@ impl ClassSet {
 
     /// The first class of the set that isn't in the other one. Time is linear in the set's words, and, where one is found, in
     /// the classes that there is room for.
+    #[inline(always)]
     pub fn first_lost(&self, other: &ClassSet) -> Option<usize>
         ensures { MatchOption result (IsWithin self.now other.now)
             (λ d. IsMarked self.now d × (IsMarked other.now d → ⊥)) }
@@ -129,6 +132,7 @@ impl ClassSet {
     }
 
     /// Whether each word's bits are among those of the other set's word.
+    #[inline(always)]
     fn has_no_more_bits(&self, other: &ClassSet) -> bool
         ensures { IsTrue result → IsWithin self.now other.now }
     {
@@ -146,6 +150,7 @@ impl ClassSet {
 }
 
 /// Adds to each word the bits of the other set's word at its place.
+#[inline(always)]
 fn join_words(words: &mut Items<u64>, more: &Items<u64>)
     ensures { JoinsTo (length words.old) more.now words.old words.new }
 {
@@ -156,6 +161,7 @@ fn join_words(words: &mut Items<u64>, more: &Items<u64>)
 }
 
 /// The word at this place, or none of its bits past the last one.
+#[inline(always)]
 fn word_at(words: &Items<u64>, place: usize) -> u64
     ensures { result ≡ slice_index_or words.now place 0 }
 {

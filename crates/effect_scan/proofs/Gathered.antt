@@ -6,7 +6,7 @@ use Rattle.std.proofs.lemmas.List.{take_all, take_more, drop_all, length-append,
 use Rattle.std.proofs.lemmas.List.Elements.{Contains-push, Contains-push_cases, Contains-append_left, Contains-append_right, Contains-append_cases}
 use Rattle.std.proofs.lemmas.Option.{get_or_from_slice_get, slice_get_within, same_Some, none-some}
 use Rattle.effect_scan.specs.Rows.{row, Edge, AreAlike}
-use Rattle.effect_scan.specs.code.Adding.{Adds, Joins, IsOrdered, AreOrdered}
+use Rattle.effect_scan.specs.code.Adding.{Adds, Joins, IsOrdered, HasBoth, AreOrdered}
 use Rattle.effect_scan.specs.code.Families.{spread, gathered, AreNamed, HasList, IsTwin, AreTwins, IsSettled}
 use Rattle.effect_scan.proofs.Adding.{no_members, row_past, row_default, row_set_same, row_set_other, left_rows, nothing_ordered, empty_edge}
 
@@ -195,17 +195,37 @@ spread_more lists ks i inside = ap (spread lists) (take_more ks i 0 inside) ∙ 
     split [] k = append-nil (row lists k)
     split (x ∷ xs) k = ap (λ (l : List ℕ). row lists x ++ l) (split xs k) ∙ sym (append_assoc (row lists x) (spread lists xs) (row lists k))
 
-pub merge_none : (lists : List (List ℕ)) (r ks : List ℕ) → r ≡ r ++ spread lists (take 0 ks)
-merge_none lists r ks = sym (append-nil r)
+-- the same numbers, in any order and any number of times
+abbrev pub HasSame : List ℕ → List ℕ → Type 0
+HasSame xs ys = (n : ℕ) → Contains ys n ↔ Contains xs n
 
-pub merge_more : (lists : List (List ℕ)) (r now after list ks : List ℕ) (i : ℕ) → i < length ks → now ≡ r ++ spread lists (take i ks) → list ≡ row lists (get_or ks i 0) → after ≡ now ++ list → after ≡ r ++ spread lists (take (i + 1) ks)
-merge_more lists r now after list ks i inside is found added =
-    added ∙ ap (λ (l : List ℕ). l ++ list) is ∙ append_assoc r (spread lists (take i ks)) list ∙ ap (λ (l : List ℕ). r ++ (spread lists (take i ks) ++ l)) found
-    ∙ ap (λ (l : List ℕ). r ++ l) (sym (spread_more lists ks i inside))
+pub merge_none : (lists : List (List ℕ)) (r ks : List ℕ) → HasSame (r ++ spread lists (take 0 ks)) r
+merge_none lists r ks n = subst (λ (l : List ℕ). Contains r n ↔ Contains l n) (sym (append-nil r)) (λ h. h, λ h. h)
 
-pub merge_all : (lists : List (List ℕ)) (r now after ks : List ℕ) (i : ℕ) → length ks ≤ i → now ≡ r ++ spread lists (take i ks) → IsOrdered now after → IsOrdered (r ++ spread lists ks) after
-merge_all lists r now after ks i past is ordered =
-    subst (λ (l : List ℕ). IsOrdered l after) (is ∙ ap (λ (l : List ℕ). r ++ spread lists l) (take_all i ks past)) ordered
+pub merge_more : (lists : List (List ℕ)) (r now after list ks : List ℕ) (i : ℕ) → i < length ks → HasSame (r ++ spread lists (take i ks)) now → list ≡ row lists (get_or ks i 0) → HasBoth now list after → HasSame (r ++ spread lists (take (i + 1) ks)) after
+merge_more lists r now after list ks i inside same found both n = subst (λ (l : List ℕ). Contains after n ↔ Contains l n) (sym whole) (
+  λ h.
+      elim ((both n).0 h) [
+        | inl old ↦ Contains-append_left (r ++ spread lists (take i ks)) list n ((same n).0 old)
+        | inr new ↦ Contains-append_right (r ++ spread lists (take i ks)) list n new
+      ],
+  λ h.
+      (both n).1
+      (elim (Contains-append_cases (r ++ spread lists (take i ks)) list n h) [
+        | inl old ↦ inl ((same n).1 old)
+        | inr new ↦ inr new
+      ]),
+)
+  where
+    whole : r ++ spread lists (take (i + 1) ks) ≡ (r ++ spread lists (take i ks)) ++ list
+    whole = ap (λ (l : List ℕ). r ++ l) (spread_more lists ks i inside) ∙ sym (append_assoc r (spread lists (take i ks)) (row lists (get_or ks i 0))) ∙ ap (λ (l : List ℕ). (r ++ spread lists (take i ks)) ++ l) (sym found)
+
+pub merge_all : (lists : List (List ℕ)) (r now after ks : List ℕ) (i : ℕ) → length ks ≤ i → HasSame (r ++ spread lists (take i ks)) now → IsOrdered now after → IsOrdered (r ++ spread lists ks) after
+merge_all lists r now after ks i past same ordered = record {
+  same = λ n. subst (λ (l : List ℕ). Contains after n ↔ Contains l n) (ap (λ (l : List ℕ). r ++ spread lists l) (take_all i ks past))
+      (λ h. (same n).0 ((ordered.same n).0 h), λ h. (ordered.same n).1 ((same n).1 h));
+  increasing = ordered.increasing;
+}
 
 -- ---- one row
 pub settled_twin : (lists named rows : List (List ℕ)) (a twin : ℕ) (d r : List ℕ) → twin < a → a < length rows → r ≡ get_or rows twin d → IsSettled lists named a twin rows (set rows a r)

@@ -1,6 +1,6 @@
 -- Lists of numbers, one number after another.
-use Rattle.std.{proofs.Common.{◌≡◌, ◌↔◌, inl, inr, ℕ, ◌+◌, ◌-◌, ◌<◌, ◌≤◌, List, [], ◌∷◌, ◌++◌, length, get_or, take, slice_get, Some, eqb, IsPermutation, refl, sym, ap, ◌∙◌, subst, arith}, specs.List.{Contains, dedup}, specs.List.Sorted.{IsStrictlyIncreasing, IsSorted}, specs.Ordering.{nat_cmp}, proofs.lemmas.Bool.{cases_eq, cases_lt}, proofs.lemmas.List.{length-append, get_or_append_left, take_all}, proofs.Math.Seq.{get_or-append_seam}, proofs.lemmas.List.Elements.{Contains-get_or, Contains-append_left, Contains-append_right, Contains-append_cases, Contains-push, Contains-push_cases}, proofs.lemmas.List.Sorted.{Contains-permutation, IsPermutation-sym}, proofs.lemmas.List.Kept.{Contains-dedup_nat, Contains-from_dedup}, proofs.lemmas.Map.Keys.{IsStrictlyIncreasing-dedup}, proofs.lemmas.Option.{slice_get_within, same_Some}}
-use Rattle.effect_scan.{specs.Rows.{row}, specs.code.Adding.{IsOrdered}, specs.declared.node.Node.{Node}, specs.declared.node.Member.{Member}, specs.declared.node.Member.TheVariants.{Property}, specs.declared.places.NodePlaces.{NodePlaces}, specs.Nodes.{node, IsAt}, specs.code.NodePlaces.{Lists, AreJust, InEach, InBelow, IsRead, OfSome}, proofs.Adding.{no_members, first_more}}
+use Rattle.std.{proofs.Common.{◌≡◌, ◌↔◌, ◌⊎◌, inl, inr, ℕ, ◌+◌, ◌-◌, ◌<◌, ◌≤◌, List, [], ◌∷◌, ◌++◌, length, get_or, take, drop, slice_get, Some, eqb, IsPermutation, refl, sym, ap, ◌∙◌, subst, subst₂, arith, take-append-drop, length-drop}, specs.List.{Contains, dedup}, specs.List.Sorted.{IsStrictlyIncreasing, IsSorted}, specs.Ordering.{nat_cmp}, proofs.lemmas.Bool.{cases_eq, cases_lt}, proofs.lemmas.List.{length-append, get_or_append_left, take_all, take_more}, proofs.Math.Seq.{get_or-append_seam}, proofs.lemmas.List.Elements.{Contains-get_or, Contains-append_left, Contains-append_right, Contains-append_cases, Contains-push, Contains-push_cases}, proofs.lemmas.List.Sorted.{Contains-permutation, IsPermutation-sym}, proofs.lemmas.List.Kept.{Contains-dedup_nat, Contains-from_dedup}, proofs.lemmas.Map.Keys.{IsStrictlyIncreasing-dedup}, proofs.lemmas.Option.{slice_get_within, same_Some}}
+use Rattle.effect_scan.{specs.code.Adding.{IsOrdered, HasBoth}, specs.declared.node.Node.{Node}, specs.declared.node.Member.{Member}, specs.declared.node.Member.TheVariants.{Property}, specs.declared.places.NodePlaces.{NodePlaces}, specs.Nodes.{node, IsAt}, specs.code.NodePlaces.{Lists, AreJust, InEach, InBelow, IsRead, OfSome}, proofs.Adding.{no_members, first_more}}
 use Rattle.meta_model.specs.declared.site.SourceProperty.{SourceProperty}
 
 pub increasing_none : IsStrictlyIncreasing []
@@ -133,6 +133,102 @@ ordered_is numbers first sorted last list e p s d f =
       );
       increasing = subst IsStrictlyIncreasing (sym is) (IsStrictlyIncreasing-dedup sorted s);
     }
+
+-- ---- lists that are merged
+-- the first numbers of both lists
+abbrev pub HasFirst : List ℕ → List ℕ → ℕ → ℕ → List ℕ → Type 0
+HasFirst first other i j all = HasBoth (take i first) (take j other) all
+
+pub both_none : (first other all : List ℕ) → all ≡ [] → HasFirst first other 0 0 all
+both_none first other all none n = (
+  λ h. absurd (no_members n (subst (λ (l : List ℕ). Contains l n) none h)),
+  λ h. elim h [ inl x ↦ absurd (no_members n x) | inr y ↦ absurd (no_members n y) ],
+)
+
+both_swap : (first other all : List ℕ) → HasBoth first other all → HasBoth other first all
+both_swap first other all both n = (
+  λ h. elim ((both n).0 h) [ inl x ↦ inr x | inr y ↦ inl y ],
+  λ h. elim h [ inl y ↦ (both n).1 (inr y) | inr x ↦ (both n).1 (inl x) ],
+)
+
+-- the next number of the first list
+pub both_left : (first other all after : List ℕ) (i j x : ℕ) → i < length first → x ≡ get_or first i 0 → HasFirst first other i j all → after ≡ all ++ x ∷ [] → HasFirst first other (i + 1) j after
+both_left first other all after i j x inside is both pushed n =
+    subst₂ (λ (l m : List ℕ). Contains l n ↔ (Contains m n ⊎ Contains (take j other) n)) (sym pushed) (sym (take_more first i 0 inside ∙ ap (λ (y : ℕ). take i first ++ y ∷ []) (sym is))) (
+      λ h.
+          elim (Contains-push_cases all x n h) [
+            | inl old ↦ elim ((both n).0 old) [ inl a ↦ inl (Contains-append_left (take i first) (x ∷ []) n a) | inr b ↦ inr b ]
+            | inr same ↦ inl (subst (λ (y : ℕ). Contains (take i first ++ x ∷ []) y) same (Contains-push (take i first) x))
+          ],
+      λ h.
+          elim h [
+            | inl a ↦
+                elim (Contains-push_cases (take i first) x n a) [
+                  | inl old ↦ Contains-append_left all (x ∷ []) n ((both n).1 (inl old))
+                  | inr same ↦ subst (λ (y : ℕ). Contains (all ++ x ∷ []) y) same (Contains-push all x)
+                ]
+            | inr b ↦ Contains-append_left all (x ∷ []) n ((both n).1 (inr b))
+          ],
+    )
+
+-- the next number of the other list
+pub both_right : (first other all after : List ℕ) (i j x : ℕ) → j < length other → x ≡ get_or other j 0 → HasFirst first other i j all → after ≡ all ++ x ∷ [] → HasFirst first other i (j + 1) after
+both_right first other all after i j x inside is both pushed =
+    both_swap (take (j + 1) other) (take i first) after (both_left other first all after j i x inside is (both_swap (take i first) (take j other) all both) pushed)
+
+-- the next number of the first list is there
+pub both_again : (first other all : List ℕ) (i j x : ℕ) → i < length first → x ≡ get_or first i 0 → Contains all x → HasFirst first other i j all → HasFirst first other (i + 1) j all
+both_again first other all i j x inside is there both n =
+    subst (λ (m : List ℕ). Contains all n ↔ (Contains m n ⊎ Contains (take j other) n)) (sym (take_more first i 0 inside ∙ ap (λ (y : ℕ). take i first ++ y ∷ []) (sym is))) (
+      λ h. elim ((both n).0 h) [ inl a ↦ inl (Contains-append_left (take i first) (x ∷ []) n a) | inr b ↦ inr b ],
+      λ h.
+          elim h [
+            | inl a ↦
+                elim (Contains-push_cases (take i first) x n a) [
+                  | inl old ↦ (both n).1 (inl old)
+                  | inr same ↦ subst (λ (y : ℕ). Contains all y) same there
+                ]
+            | inr b ↦ (both n).1 (inr b)
+          ],
+    )
+
+both_ends : (first other all more after : List ℕ) (i j : ℕ) → HasFirst first other i j all → more ≡ all ++ drop i first → after ≡ more ++ drop j other → HasBoth first other after
+both_ends first other all more after i j both one two n = (
+  λ h.
+      elim (Contains-append_cases more (drop j other) n (subst (λ (l : List ℕ). Contains l n) two h)) [
+        | inl before ↦
+            elim (Contains-append_cases all (drop i first) n (subst (λ (l : List ℕ). Contains l n) one before)) [
+              | inl old ↦
+                  elim ((both n).0 old) [
+                    | inl a ↦ inl (subst (λ (l : List ℕ). Contains l n) (take-append-drop i first) (Contains-append_left (take i first) (drop i first) n a))
+                    | inr b ↦ inr (subst (λ (l : List ℕ). Contains l n) (take-append-drop j other) (Contains-append_left (take j other) (drop j other) n b))
+                  ]
+              | inr rest ↦ inl (subst (λ (l : List ℕ). Contains l n) (take-append-drop i first) (Contains-append_right (take i first) (drop i first) n rest))
+            ]
+        | inr rest ↦ inr (subst (λ (l : List ℕ). Contains l n) (take-append-drop j other) (Contains-append_right (take j other) (drop j other) n rest))
+      ],
+  λ h.
+      subst (λ (l : List ℕ). Contains l n) (sym two)
+      (elim h [
+        | inl a ↦
+            elim (Contains-append_cases (take i first) (drop i first) n (subst (λ (l : List ℕ). Contains l n) (sym (take-append-drop i first)) a)) [
+              | inl old ↦ Contains-append_left more (drop j other) n (subst (λ (l : List ℕ). Contains l n) (sym one) (Contains-append_left all (drop i first) n ((both n).1 (inl old))))
+              | inr rest ↦ Contains-append_left more (drop j other) n (subst (λ (l : List ℕ). Contains l n) (sym one) (Contains-append_right all (drop i first) n rest))
+            ]
+        | inr b ↦
+            elim (Contains-append_cases (take j other) (drop j other) n (subst (λ (l : List ℕ). Contains l n) (sym (take-append-drop j other)) b)) [
+              | inl old ↦ Contains-append_left more (drop j other) n (subst (λ (l : List ℕ). Contains l n) (sym one) (Contains-append_left all (drop i first) n ((both n).1 (inr old))))
+              | inr rest ↦ Contains-append_right more (drop j other) n rest
+            ]
+      ]),
+)
+
+-- what is left of both goes to the end
+pub both_all : (first other all more after : List ℕ) (i j : ℕ) → HasFirst first other i j all → more ≡ all ++ take (length first - i) (drop i first) → after ≡ more ++ take (length other - j) (drop j other) → HasBoth first other after
+both_all first other all more after i j both one two = both_ends first other all more after i j both (one ∙ ap (λ (l : List ℕ). all ++ l) (the_rest first i)) (two ∙ ap (λ (l : List ℕ). more ++ l) (the_rest other j))
+  where
+    the_rest : (xs : List ℕ) (k : ℕ) → take (length xs - k) (drop k xs) ≡ drop k xs
+    the_rest xs k = take_all (length xs - k) (drop k xs) (omega (arith, length-drop k xs))
 
 -- ---- lists of numbers of nodes
 pub some_low : {X : Type 0} (P : X → ℕ → Type 0) (xs : List X) (rows : List (List ℕ)) (from sources : List ℕ) → ((x : X) (n : ℕ) → P x n → n < length rows) → AreJust (OfSome P xs) from → sources ≡ from → (a : ℕ) → Contains sources a → a < length rows

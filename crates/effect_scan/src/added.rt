@@ -1,7 +1,8 @@
 //! Numbers that are gathered one after another.
 
-ghost use Rattle.std.specs.Prelude.{◌≡◌, ◌++◌, ◌∷◌, [], IfOk, OnOk};
-ghost use Rattle.effect_scan.specs.code.Adding.{IsOrdered};
+ghost use Rattle.std.specs.Prelude.{◌≡◌, ◌++◌, ◌∷◌, [], IfOk, OnOk, IsTrue};
+ghost use Rattle.std.specs.List.Sorted.{IsStrictlyIncreasing};
+ghost use Rattle.effect_scan.specs.code.Adding.{IsOrdered, HasBoth};
 
 use std::alloc::{AllocError, Global};
 use std::marker::Model;
@@ -39,6 +40,32 @@ impl Added {
         Ok(Added { numbers: all })
     }
 
+    /// The numbers of both lists: where both are in their order, so are these, each once. The error is that memory was refused.
+    pub fn of_both(alloc: Global, first: &[usize], other: &[usize]) -> Result<Added, AllocError>
+        ensures { IfOk result (λ all. HasBoth first.now other.now all) }
+    {
+        let mut numbers = Vec::with_capacity(alloc, first.len().saturating_add(other.len()))?;
+        let mut i = 0;
+        let mut j = 0;
+        while i < first.len() && j < other.len() {
+            let left = first[i];
+            let right = other[j];
+            if left < right {
+                numbers.push(left)?;
+                i += 1;
+            } else {
+                numbers.push(right)?;
+                j += 1;
+                if left == right {
+                    i += 1;
+                }
+            }
+        }
+        numbers.extend_from_slice(&first[i..])?;
+        numbers.extend_from_slice(&other[j..])?;
+        Ok(Added { numbers })
+    }
+
     /// The numbers as they were added.
     pub fn as_slice(&self) -> &[usize]
         ensures { result.now ≡ self.now }
@@ -66,6 +93,9 @@ impl Added {
     pub fn put_in_order(&mut self)
         ensures { IsOrdered self.old self.new }
     {
+        if is_increasing(self.numbers.as_slice()) {
+            return;
+        }
         self.numbers.sort_unstable();
         self.numbers.dedup();
     }
@@ -74,10 +104,24 @@ impl Added {
     pub fn fitted(self) -> Added
         ensures { IsOrdered self result }
     {
-        let Added { mut numbers } = self;
-        numbers.sort_unstable();
-        numbers.dedup();
+        let mut added = self;
+        added.put_in_order();
+        let Added { mut numbers } = added;
         numbers.shrink_to_fit();
         Added { numbers }
     }
+}
+
+/// Whether each of the numbers is above the one before it.
+pub fn is_increasing(numbers: &[usize]) -> bool
+    ensures { IsTrue result → IsStrictlyIncreasing numbers.now }
+{
+    for place in 1..numbers.len() {
+        let before = numbers[place - 1];
+        let here = numbers[place];
+        if before >= here {
+            return false;
+        }
+    }
+    true
 }

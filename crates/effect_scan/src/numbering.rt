@@ -84,7 +84,7 @@ impl Numbering {
     pub fn of(alloc: Global, classes: &[MetaObject]) -> Result<Numbering, AllocError>
         ensures { IfOk result (λ nodes. nodes ≡ nodes_from 0 (map shape_of classes.now)) }
     {
-        let mut nodes = Items::new(alloc);
+        let mut nodes = Items::from_vec(Vec::with_capacity(alloc, room_for(classes))?);
         let mut shapes = Items::new(alloc);
         let mut starts = Items::new(alloc);
         for (number, class) in classes.iter().enumerate() {
@@ -122,6 +122,18 @@ impl Numbering {
         let place = shape.place(node.member)?;
         Some(*start + place)
     }
+}
+
+/// How many nodes there is to be room for at first: just those of these classes.
+fn room_for(classes: &[MetaObject]) -> usize {
+    let mut room = 0usize;
+    for class in classes {
+        // Two of its methods are one node, and its destruction is one.
+        room = room
+            .saturating_add(class.methods.len())
+            .saturating_add(class.properties.len());
+    }
+    room
 }
 
 /// Adds the nodes of the class of this number.

@@ -143,8 +143,9 @@ fn merge(
 ) -> Result<(), AllocError>
     ensures { IfOk result (λ _. IsOrdered (row.old ++ spread lists.now named.now) row.new) }
 {
+    // What is gathered is mostly in order, and then the lists are merged.
     for number in named {
-        row.add_all(alloc, row_at(lists, *number))?;
+        row.unite(alloc, row_at(lists, *number))?;
     }
     row.put_in_order(alloc)?;
     if named.is_empty() {

@@ -1,11 +1,10 @@
 //! The numbers that the edges from a node lead to, in little memory: most nodes have one of them, and many the same list.
 
-ghost use Rattle.std.specs.Prelude.{◌≡◌, ◌++◌, ◌∷◌, [], length, IfOk, OnOk, IsTrue};
-ghost use Rattle.std.specs.List.Sorted.{IsStrictlyIncreasing};
-ghost use Rattle.effect_scan.specs.code.Adding.{IsOrdered};
+ghost use Rattle.std.specs.Prelude.{◌≡◌, ◌++◌, ◌∷◌, [], length, IfOk, OnOk};
+ghost use Rattle.effect_scan.specs.code.Adding.{IsOrdered, HasBoth};
 ghost use Rattle.effect_scan.specs.code.Holding.{held_list};
 
-use crate::added::Added;
+use crate::added::{Added, is_increasing};
 use basic_types::Shared;
 use std::alloc::{AllocError, Global};
 use std::marker::Model;
@@ -72,6 +71,19 @@ impl HeldNumbers {
         }
     }
 
+    /// The numbers of both lists: where both are in their order, so are these, each once; the error is that memory was refused.
+    fn united(self, alloc: Global, numbers: &[usize]) -> Result<HeldNumbers, AllocError>
+        ensures { IfOk result (λ held. HasBoth (held_list self) numbers.now (held_list held)) }
+    {
+        match self {
+            HeldNumbers::Nothing => HeldNumbers::just(alloc, numbers),
+            held => {
+                let list = Added::of_both(alloc, held.as_slice(), numbers)?;
+                Ok(HeldNumbers::Own(list))
+            }
+        }
+    }
+
     /// The numbers in their order, each once; the error is that memory was refused. A list that is in order stays the one that
     /// other nodes have too.
     fn in_order(self, alloc: Global) -> Result<HeldNumbers, AllocError>
@@ -119,20 +131,6 @@ impl HeldNumbers {
             }
         }
     }
-}
-
-/// Whether each of the numbers is above the one before it.
-fn is_increasing(numbers: &[usize]) -> bool
-    ensures { IsTrue result → IsStrictlyIncreasing numbers.now }
-{
-    for place in 1..numbers.len() {
-        let before = numbers[place - 1];
-        let here = numbers[place];
-        if before >= here {
-            return false;
-        }
-    }
-    true
 }
 
 /// The numbers that the edges from a node lead to.
@@ -186,6 +184,15 @@ impl Targets {
         Ok(())
     }
 
+    /// Adds the numbers, among those before: where both are in their order, so are all, each once.
+    pub fn unite(&mut self, alloc: Global, numbers: &[usize]) -> Result<(), AllocError>
+        ensures { IfOk result (λ _. HasBoth self.old numbers.now self.new) }
+    {
+        let held = mem::replace(&mut self.held, HeldNumbers::Nothing);
+        self.held = held.united(alloc, numbers)?;
+        Ok(())
+    }
+
     /// Puts the numbers in their order, each once.
     pub fn put_in_order(&mut self, alloc: Global) -> Result<(), AllocError>
         ensures { IfOk result (λ _. IsOrdered self.old self.new) }
@@ -194,6 +201,7 @@ impl Targets {
         self.held = held.in_order(alloc)?;
         Ok(())
     }
+
     /// Keeps the numbers so that copies share them. The error is that memory was refused.
     pub fn share(&mut self, alloc: Global) -> Result<(), AllocError>
         ensures { IfOk result (λ _. self.new ≡ self.old) }

@@ -7,7 +7,7 @@ ghost use Rattle.effect_scan.specs.Nodes.{nodes_of};
 
 use crate::causes::{Cause, Extra};
 use crate::naming::line_numbers;
-use crate::places::{first_extra, line_places};
+use crate::places::{line_places, take_first_extra};
 use crate::sets::shared_set;
 use basic_types::Shared;
 use certificate_lang::{Certificate, Line};
@@ -42,14 +42,7 @@ pub fn entries(
     let lines = certificate.lines.as_slice();
     let numbers = line_numbers(alloc, meta, scan, lines)?;
     match line_places(alloc, scan.nodes().len(), numbers.as_slice())? {
-        Ok(places) => placed_entries(
-            alloc,
-            meta,
-            scan,
-            certificate,
-            numbers.as_slice(),
-            places.as_slice(),
-        ),
+        Ok(places) => placed_entries(alloc, meta, scan, certificate, numbers, places.as_slice()),
         Err(node) => Err(Cause::Missing(node)),
     }
 }
@@ -60,15 +53,15 @@ fn placed_entries(
     meta: &Meta,
     scan: &Scan,
     certificate: &Certificate,
-    numbers: &[Option<usize>],
+    numbers: Items<Option<usize>>,
     places: &[usize],
 ) -> Result<Items<NodeClaim>, Cause>
     requires scan { IsScan meta.now scan.now }
-    requires numbers { AreNumbers meta.now certificate.now.lines numbers.now }
-    requires places { ArePlaces (length (nodes_of meta.now)) numbers.now places.now }
+    requires numbers { AreNumbers meta.now certificate.now.lines numbers }
+    requires places { ArePlaces (length (nodes_of meta.now)) numbers places.now }
     ensures { GivesEntries meta.now certificate.now result }
 {
-    if let Some(extra) = first_extra(numbers, places) {
+    if let Some(extra) = take_first_extra(numbers, places) {
         return Err(Cause::Extra(extra));
     }
     match entries_at(alloc, meta, scan, certificate.lines.as_slice(), places)? {

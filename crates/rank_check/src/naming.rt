@@ -25,7 +25,7 @@ pub fn line_numbers(
     requires { IsScan meta.now scan.now }
     ensures { IfOk result (AreNumbers meta.now lines.now) }
 {
-    let mut numbers = Items::new(alloc);
+    let mut numbers = Items::from_vec(Vec::with_capacity(alloc, lines.len())?);
     for (place, line) in lines.iter().enumerate() {
         let number = line_number(meta, scan, place, &line.node);
         numbers.push(number)?;

@@ -43,7 +43,7 @@ fn last_places(
 fn no_places(alloc: Global, count: usize) -> Result<Items<Option<usize>>, AllocError>
     ensures { IfOk result (λ places. places ≡ replicate count None) }
 {
-    let mut places = Items::new(alloc);
+    let mut places = Items::from_vec(Vec::with_capacity(alloc, count)?);
     for _node in 0..count {
         places.push(None)?;
     }
@@ -57,7 +57,7 @@ fn all_places(
 ) -> Result<Result<Items<usize>, usize>, AllocError>
     ensures { IfOk result (FindsAll places.now) }
 {
-    let mut all = Items::new(alloc);
+    let mut all = Items::from_vec(Vec::with_capacity(alloc, places.len())?);
     for (node, place) in places.iter().enumerate() {
         match place {
             Some(line) => all.push(*line)?,
@@ -68,7 +68,7 @@ fn all_places(
 }
 
 /// The first line that is for no node, or for the node of another one.
-pub fn first_extra(numbers: &[Option<usize>], places: &[usize]) -> Option<Extra>
+fn first_extra(numbers: &[Option<usize>], places: &[usize]) -> Option<Extra>
     requires { AreBelow (length places.now) numbers.now }
     ensures { MatchOption result (AreOnce numbers.now places.now) (IsExtraLine numbers.now places.now) }
 {
@@ -84,4 +84,12 @@ pub fn first_extra(numbers: &[Option<usize>], places: &[usize]) -> Option<Extra>
         }
     }
     None
+}
+
+/// The same of numbers that aren't needed any more.
+pub fn take_first_extra(numbers: Items<Option<usize>>, places: &[usize]) -> Option<Extra>
+    requires { AreBelow (length places.now) numbers }
+    ensures { MatchOption result (AreOnce numbers places.now) (IsExtraLine numbers places.now) }
+{
+    first_extra(numbers.as_slice(), places)
 }

@@ -9,7 +9,7 @@ use Rattle.effect_scan.specs.Rows.{row, Edge, AreAlike}
 use Rattle.rank_graph.specs.Graphs.{InRange}
 use Rattle.rank_graph.specs.Walks.{LeadsBy, AreDistinct}
 use Rattle.rank_graph.specs.Entries.{owns}
-use Rattle.rank_graph.specs.Searching.{state_of, Joins, room, Finished, NoneOpen, OnPath, AreOnce, Visiting, Held, Searching, Grows, Visited, Since, IsKnown, IsBegun, left, left_below, Climbs, LeadsRound}
+use Rattle.rank_graph.specs.Searching.{state_of, Joins, room, Finished, NoneOpen, OnPath, AreOnce, Visiting, Held, Searching, Grows, Visited, Since, IsKnown, IsBegun, PassesDone, left, left_below, Climbs, LeadsRound}
 use Rattle.rank_graph.specs.declared.bits.Bits.{Bits}
 use Rattle.rank_graph.specs.declared.path.NodeRank.{NodeRank}
 use Rattle.rank_graph.specs.declared.path.VisitState.{VisitState}
@@ -376,6 +376,33 @@ pub over_step : (rows : List (List ℕ)) (own : List Bits) (before states : List
     → Searching rows own states path (record { node = at.node; next = at.next + 1; entry = f }) × Since before root states
 over_step rows own before states root path at r d f s e more is rank both =
     (step_over rows own states path at d f (get_or r at.next 0) s.0 (subst (λ (x : List ℕ). at.next < length x) e more) (subst (λ (x : List ℕ). get_or x at.next 0 ≡ get_or r at.next 0) e refl) is rank both, s.1)
+
+-- edges are followed that lead to nodes that are done
+pub passes_none : (rows : List (List ℕ)) (states : List VisitState) (v : Visit) → PassesDone rows states v v
+passes_none rows states v = record { node = refl; onward = omega arith; keeps = λ own path s. s }
+
+pub passes_more : (rows : List (List ℕ)) (states : List VisitState) (before at : Visit) (r : List ℕ) (d f : NodeRank) → PassesDone rows states before at → r ≡ row rows before.node → at.next < length r → state_of states (get_or r at.next 0) ≡ Done d → f.rank ≡ max at.entry.rank (d.rank + 1) → ((c : ℕ) → has f.classes c ≡ (has at.entry.classes c || has d.classes c))
+    → PassesDone rows states before (record { node = at.node; next = at.next + 1; entry = f })
+passes_more rows states before at r d f p e more is rank both = record {
+  node = p.node;
+  onward = omega (arith, p.onward);
+  keeps = λ own path s. step_over rows own states path at d f (get_or r at.next 0) (p.keeps own path s) (subst (λ (x : List ℕ). at.next < length x) here more) (subst (λ (x : List ℕ). get_or x at.next 0 ≡ get_or r at.next 0) here refl) is rank both;
+}
+  where
+    here : r ≡ row rows at.node
+    here = e ∙ ap (λ (a : ℕ). row rows a) (sym p.node)
+
+pub passed : (rows : List (List ℕ)) (own : List Bits) (begun states : List VisitState) (root : ℕ) (path : List Visit) (before after : Visit) → PassesDone rows states before after → Searching rows own states path before × Since begun root states → Searching rows own states path after × Since begun root states
+passed rows own begun states root path before after p s = (p.keeps own path s.0, s.1)
+
+-- as many are left as before, or fewer
+pub passes_left : (rows : List (List ℕ)) (states : List VisitState) (before after : Visit) → PassesDone rows states before after → length (row rows after.node) - after.next ≤ length (row rows before.node) - before.next
+passes_left rows states before after p =
+    let same : length (row rows after.node) ≡ length (row rows before.node) = ap (λ (a : ℕ). length (row rows a)) p.node in
+    omega (arith, same, p.onward)
+
+pub less_more : (x a b m n : ℕ) → m ≤ n → x < a + b + m → x < a + b + n
+less_more x a b m n h k = omega (arith, h, k)
 
 pub into_step : (rows : List (List ℕ)) (own : List Bits) (before states : List VisitState) (root : ℕ) (path after : List Visit) (at v : Visit) (r : List ℕ) → Searching rows own states path at × Since before root states → length before ≡ length rows → InRange rows → r ≡ row rows at.node → at.next < length r → state_of states (get_or r at.next 0) ≡ New → IsBegun rows own states (get_or r at.next 0) v → after ≡ at ∷ path
     → Searching rows own (set states (get_or r at.next 0) Open) after v × Since before root (set states (get_or r at.next 0) Open)

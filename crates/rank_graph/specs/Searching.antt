@@ -87,6 +87,12 @@ pub record Searching (rows : List (List ℕ)) (own : List Bits) (states : List V
   pub once : OnPath at.node path → ⊥
   pub only : (a : ℕ) → state_of states a ≡ Open → (a ≡ at.node) ⊎ OnPath a path
 
+-- more of a visit's edges were followed
+pub record PassesDone (rows : List (List ℕ)) (states : List VisitState) (before after : Visit) : Type 0 where
+  pub node : after.node ≡ before.node
+  pub onward : before.next ≤ after.next
+  pub keeps : (own : List Bits) (path : List Visit) → Searching rows own states path before → Searching rows own states path after
+
 -- nodes that are done stay so
 abbrev pub Grows : List VisitState → List VisitState → Type 0
 Grows states after = (a : ℕ) (d : NodeRank) → state_of states a ≡ Done d → state_of after a ≡ Done d

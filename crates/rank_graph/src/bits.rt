@@ -26,6 +26,7 @@ impl Bits {
     }
 
     /// Whether both sets have the same numbers.
+    #[inline(always)]
     pub fn is_same(self, other: Bits) -> bool
         ensures { IsTrue result ↔ (self ≡ other) }
     {
@@ -47,6 +48,7 @@ impl Bits {
     }
 
     /// Whether the set has the number.
+    #[inline(always)]
     pub fn contains(self, number: u32) -> bool
         requires { number < 128 }
         ensures { result ≡ has self number }
@@ -65,6 +67,7 @@ impl Bits {
     }
 
     /// The numbers of both sets.
+    #[inline(always)]
     pub fn union(self, other: Bits) -> Bits
         ensures { (c : ℕ) → has result c ≡ (has self c || has other c) }
     {

@@ -6,8 +6,9 @@ ghost use Rattle.rank_graph.specs.Bits.{has};
 ghost use Rattle.rank_graph.specs.Graphs.{InRange};
 ghost use Rattle.rank_graph.specs.Entries.{IsSearched, owns};
 ghost use Rattle.rank_graph.specs.Faults.{IsUnranked};
-ghost use Rattle.rank_graph.specs.Searching.{AllDone, Finished, Visited, NoneOpen, IsBegun, IsKnown, state_of};
-ghost use Rattle.rank_graph.specs.declared.path.VisitState.TheVariants.{New};
+ghost use Rattle.rank_graph.specs.Searching.{AllDone, Finished, Visited, NoneOpen, IsBegun, IsKnown, PassesDone, state_of};
+ghost use Rattle.rank_graph.specs.declared.path.NodeRank.{NodeRank};
+ghost use Rattle.rank_graph.specs.declared.path.VisitState.TheVariants.{New, Done};
 
 use crate::bits::Bits;
 use crate::cycle::back_to;
@@ -64,6 +65,7 @@ fn visit_all(
 }
 
 /// The entry of a node that has an edge to a node with the entry `below`.
+#[inline(always)]
 fn over(entry: NodeRank, below: NodeRank) -> NodeRank
     requires { below.rank + 1 < 2 ^ 64 }
     ensures rank { result.rank ≡ max entry.rank (below.rank + 1) }
@@ -129,6 +131,28 @@ fn adds_nothing(own: &[Bits], first: usize, other: usize) -> bool
     own[first].union(classes).is_same(classes)
 }
 
+/// The visit, after those of its next edges were followed that lead to nodes that are done, up to the first other one.
+#[inline(always)]
+fn past_done(rows: &[Targets], states: &States, visit: Visit) -> Visit
+    requires inside { InRange rows.now }
+    requires states { length states.now ≡ length rows.now }
+    requires low { (a : ℕ) (e : NodeRank) → state_of states.now a ≡ Done e → e.rank + 1 < 2 ^ 64 }
+    ensures { PassesDone rows.now states.now visit result }
+{
+    let row = targets_at(rows, visit.node);
+    let mut at = visit;
+    while at.next < row.len() {
+        match states.get(row[at.next]) {
+            VisitState::Done(entry) => {
+                at.entry = over(at.entry, entry);
+                at.next += 1;
+            }
+            _ => return at,
+        }
+    }
+    at
+}
+
 /// Follows the edges from a node, and from each node that is met for the first time, until all of these are done or a cycle is
 /// met.
 fn visit(
@@ -155,6 +179,7 @@ fn visit(
     let mut at = begun(rows, alike, own, states, root);
     states.enter(root);
     'search: loop {
+        at = past_done(rows, states, at);
         let row = targets_at(rows, at.node);
         if at.next < row.len() {
             let target = row[at.next];

@@ -72,6 +72,7 @@ impl Solution {
     }
 
     /// What was found of the node for this group of classes.
+    #[inline(always)]
     fn entry(&self, group: usize, node: usize) -> Option<NodeRank>
         ensures { result ≡ slice_get (entries_of self.now group) node }
     {

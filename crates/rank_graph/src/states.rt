@@ -79,6 +79,7 @@ impl States {
     }
 
     /// The state of the node.
+    #[inline(always)]
     pub fn get(&self, node: usize) -> VisitState
         requires { node < length self.now }
         ensures { result ≡ state_of self.now node }
@@ -188,6 +189,7 @@ fn remember(places: &mut Items<usize>, place: usize, number: usize) {
 }
 
 /// The entry of this number; that of a node without edges past the last one.
+#[inline(always)]
 fn entry_at(entries: &[NodeRank], number: usize) -> NodeRank
     ensures { result ≡ entry_in entries.now number }
 {
@@ -242,6 +244,7 @@ impl Model for Found {
 
 impl Found {
     /// The entry of the node, if there is such a node.
+    #[inline(always)]
     pub fn entry(&self, node: usize) -> Option<NodeRank>
         ensures { result ≡ slice_get self.now node }
     {

@@ -25,6 +25,10 @@ pub record AmongFirst {X : Type 0} (L : ℕ → X → ℕ → ℕ → Type 0) (x
 abbrev pub Joins : List ℕ → List ℕ → ℕ → ℕ → Type 0
 Joins sources targets a b = Contains sources a × Contains targets b
 
+-- just the numbers of both lists
+abbrev pub HasBoth : List ℕ → List ℕ → List ℕ → Type 0
+HasBoth first other all = (n : ℕ) → Contains all n ↔ (Contains first n ⊎ Contains other n)
+
 -- the same numbers, each once, in their order
 pub record IsOrdered (numbers list : List ℕ) : Type 0 where
   pub same : (n : ℕ) → Contains list n ↔ Contains numbers n

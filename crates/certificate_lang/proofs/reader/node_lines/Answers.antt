@@ -1,4 +1,4 @@
-use Rattle.std.proofs.Common.{List, Err, subst}
+use Rattle.std.proofs.Common.{◌≡◌, ◌∙◌, List, Err, subst}
 use Rattle.std.proofs.lemmas.Result.{err_from_is_err_and}
 use Rattle.texts.specs.declared.token.Token.{Token}
 use Rattle.certificate_lang.specs.code.Reads.{ReadsLine}
@@ -19,7 +19,9 @@ returns-in_err-line c =
 pub loop-lines-preserved : goal.loop-lines-preserved
 loop-lines-preserved c =
     let takes = rw c.in-Some.is at c.in_ok-after.ensures.splits in
-    rw c.in_ok-push.ensures.ok (line_next c.loop-lines.invariant takes (rw c.tokens.ensures at c.in_ok-line.ensures))
+    rw c.in_ok-add.ensures (line_next c.loop-lines.invariant takes (rw c.tokens.ensures at c.in_ok-line.ensures))
 
 pub returns : goal.returns
-returns c = lines_end c.loop-lines.invariant (rw c.in_default.is at c.in_ok-after.ensures.splits)
+returns c =
+    let is : c.from_vec.result ≡ c.loop-lines.lines.items = c.from_vec.ensures ∙ c.shrink_to_fit.ensures.items in
+    rw is (lines_end c.loop-lines.invariant (rw c.in_default.is at c.in_ok-after.ensures.splits))

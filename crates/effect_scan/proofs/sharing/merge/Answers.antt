@@ -9,7 +9,7 @@ pub loop-number-init : goal.loop-number-init
 loop-number-init c = merge_none c.args.lists.now c.args.row.now c.args.named.now
 
 pub loop-number-preserved : goal.loop-number-preserved
-loop-number-preserved c = merge_more c.args.lists.now c.args.row.now _ _ _ c.args.named.now _ c.loop-number-test.true c.loop-number.invariant c.row_at.ensures c.in_ok-add_all.ensures
+loop-number-preserved c = merge_more c.args.lists.now c.args.row.now _ _ _ c.args.named.now _ c.loop-number-test.true c.loop-number.invariant c.row_at.ensures c.in_ok-unite.ensures
 
 pub returns-then-is_empty : goal.returns-then-is_empty
 returns-then-is_empty c = merge_all c.args.lists.now c.args.row.now _ _ c.args.named.now _ (omega (arith, c.loop-number-test.false)) c.loop-number.invariant c.in_ok-put_in_order.ensures

@@ -12,8 +12,8 @@ line_places-requires c =
     let numbers = subst (λ (ns : List (Option ℕ)). AreNumbers c.args.meta.now c.args.certificate.now.lines ns) (sym c.as_slice.ensures) lines in
     numbers_low c.args.meta.now c.args.certificate.now c.as_slice.result.now numbers _ (ap (λ (ns : List Node). length ns) (c.nodes.ensures ∙ c.requires.nodes))
 
-pub returns : goal.returns
-returns c = λ ready.
+pub returns-in-Err : goal.returns-in-Err
+returns-in-Err c = λ ready.
     let lines = subst (λ (ls : List Line). AreNumbers c.args.meta.now ls c.in_ok-numbers.numbers) c.as_slice-lines.ensures c.in_ok-numbers.ensures in
     let numbers = subst (λ (ns : List (Option ℕ)). AreNumbers c.args.meta.now c.args.certificate.now.lines ns) (sym c.as_slice.ensures) lines in
     let missing =
