@@ -1,13 +1,13 @@
 -- Objects that move to another loop with all that is below one of them: what agrees goes on to, and the order in which they
 -- were found is of no account.
-use Rattle.std.{proofs.Common.{◌≡◌, ◌≢◌, ℕ, zero, suc, ◌<◌, arith, is_some, eqb, Bool, true, false, not, ◌||◌, ◌&&◌, cond, List, [], ◌∷◌, All, length, get_or, Option, None, Some, refl, ap, sym, ◌∙◌, ◌⊎◌, ⊎_elim, inl, inr, ◌≤◌, ◌↔◌, IsTrue, subst, Result, Ok, Err}, specs.Result.{IsErrAnd}, specs.List.{list_any}, specs.Option.{option_map}, proofs.Math.Path.{fun_ext}, proofs.lemmas.Bool.{cases_Bool, cases_eq, cases_lt, eq-eqb, eqb-true, false≢true}, proofs.lemmas.List.Folds.{list_any_at}, proofs.lemmas.Option.{same_Some}}
+use Rattle.std.{proofs.Common.{◌≡◌, ◌≢◌, ℕ, zero, suc, ◌<◌, arith, is_some, eqb, Bool, true, false, not, ◌||◌, ◌&&◌, cond, List, [], ◌∷◌, All, length, get_or, Option, None, Some, refl, ap, sym, ◌∙◌, ⊎_elim, inl, inr, ◌≤◌, ◌↔◌, IsTrue, subst, Result, Ok, Err}, specs.Result.{IsErrAnd}, specs.Prelude.{IfErr}, specs.List.{list_any}, specs.Option.{option_map}, proofs.Math.Path.{fun_ext}, proofs.lemmas.Bool.{cases_Bool, cases_eq, cases_lt, eq-eqb, eqb-true, false≢true}, proofs.lemmas.List.Folds.{list_any_at}, proofs.lemmas.Option.{same_Some}}
 use Rattle.meta_model.specs.{Loaded.{Loaded}, Among.{is_among}}
-use Rattle.object_tree.{specs.declared.life.Life.{Life}, specs.declared.object.Object.{Object}, specs.Family.{parent_of}, specs.Moving.{AreBelow, all_in_loop, in_loop}, specs.Objects.{life_of, home_of}, specs.Typed.{AreTyped}, proofs.Moving.{same_tests, home-in_loop, in_loop-alike, life-in_loop, typed-in_loop}}
+use Rattle.object_tree.{specs.declared.life.Life.{Life}, specs.declared.object.Object.{Object}, specs.Family.{parent_of}, specs.Moving.{AreBelow, all_in_loop, in_loop}, specs.Objects.{life_of, home_of}, proofs.Moving.{same_tests, home-in_loop, in_loop-alike, life-in_loop, typed-in_loop}}
 use Rattle.event_loops.{specs.declared.fault.PostFault.{PostFault}, specs.Queues.{Loop, Queues, name_at, rehomed}, specs.code.Rings.{gathered}, proofs.Names.{none_where}, proofs.Rehoming.{gathered-rehomed}}
 use Rattle.event_loops.specs.declared.fault.PostFault.TheVariants as post
 use Rattle.binding_graph.specs.{declared.binding.Binding.{Binding}, Bindings.{joined_by, leads_out, lead_out}}
 use Rattle.prop_bindings.{specs.Fits.{IsInOneLoop, Agree}, proofs.Leaving.{LivesOn, agree-still}}
-use Rattle.delete_later.specs.{declared.store.Store.{Store}, declared.fault.MoveFault.{MoveFault}, FaultNumbers.{fault_of}, Moving.{moved_to, IsMoved, IsNotMoved, no_loop, no_memory, MovesOrNot}}
+use Rattle.delete_later.specs.{declared.store.Store.{Store}, declared.fault.MoveFault.{MoveFault}, FaultNumbers.{fault_of}, Moving.{moved_to, IsMoved, IsNotMoved, no_loop, bound, no_memory, MovesOrNot, DontFollow, bound_out, no_such_loop, memory}}
 use Rattle.delete_later.specs.declared.fault.MoveFault.TheVariants as fault
 
 -- ---- bindings that lead to no other object
@@ -140,22 +140,30 @@ module _ (s : Store) (object home : ℕ) (r : Bool) where
       (λ (h : length s.loops.loops ≤ home). h)
       (cases_lt home (length s.loops.loops))
 
-  pub not-at-home : (IsTrue r ↔ (home_of s.tree object ≡ Some home)) → r ≡ false → home_of s.tree object ≢ Some home
-  not-at-home told e here = false≢true (sym e ∙ told.1 here)
+  pub not-at-home : (from : ℕ) → home_of s.tree object ≡ Some from → r ≡ eqb from home → r ≡ false → home_of s.tree object ≢ Some home
+  not-at-home from at told e here = false≢true (sym e ∙ told ∙ eq-eqb from home (same_Some from home (sym at ∙ here)))
 
   pub has-none : r ≡ is_some (parent_of s.tree object) → r ≡ false → parent_of s.tree object ≡ None
   has-none told e = none_where (parent_of s.tree object) (sym e ∙ told)
 
 -- ---- errors of the calls that a move makes
 module _ (s : Store) (object home : ℕ) where
-  pub moves-short : (r : Result (Unit {0}) MoveFault) → IsErrAnd r (λ f. f ≡ fault.Memory) → MovesOrNot object home s r s
-  moves-short (Ok done) e = absurd e
-  moves-short (Err f) e = (subst (λ (g : MoveFault). IsNotMoved object home s g) (sym e) no_memory, refl)
+  pub moves-short : (t : Store) (r : Result (Unit {0}) MoveFault) → t ≡ s → IsErrAnd r (λ f. f ≡ fault.Memory) → MovesOrNot object home s r t
+  moves-short t (Ok done) same e = absurd e
+  moves-short t (Err f) same e = (subst (λ (g : MoveFault). IsNotMoved object home s g) (sym e) no_memory, same)
 
-  refused : (f : PostFault) → (f ≡ post.NoLoop → length s.loops.loops ≤ home) → IsNotMoved object home s (fault_of f)
-  refused post.NoLoop beyond = no_loop (beyond refl)
-  refused post.Memory beyond = no_memory
+  -- what doesn't follow its objects keeps them where they are
+  pub not-followed : (there : home < length s.loops.loops) (root : parent_of s.tree object ≡ None) (away : home_of s.tree object ≢ Some home) (os : List ℕ) → AreBelow s.tree object os → {f : MoveFault} → DontFollow os home s.bindings s.loops f → IsNotMoved object home s f
+  not-followed there root away os below (bound_out out) = bound there root away (record { objects = os; below = below; out = out })
+  not-followed there root away os below (no_such_loop beyond) = no_loop beyond
+  not-followed there root away os below memory = no_memory
 
-  pub moves-refused : (t : Store) (f : PostFault) (r : Result (Unit {0}) MoveFault) → t ≡ s → (f ≡ post.NoLoop → length s.loops.loops ≤ home) → IsErrAnd r (λ g. g ≡ fault_of f) → MovesOrNot object home s r t
-  moves-refused t f (Ok done) same beyond e = absurd e
-  moves-refused t f (Err g) same beyond e = (subst (λ (h : MoveFault). IsNotMoved object home s h) (sym e) (refused f beyond), same)
+-- why what waits for objects doesn't follow them to a loop
+module _ (os : List ℕ) (home : ℕ) (bindings : List Binding) (loops : Queues) where
+  why : (f : PostFault) → (f ≡ post.NoLoop → length loops.loops ≤ home) → DontFollow os home bindings loops (fault_of f)
+  why post.NoLoop beyond = no_such_loop (beyond refl)
+  why post.Memory beyond = memory
+
+  pub follow-refused : (f : PostFault) (r : Result (Unit {0}) MoveFault) → (f ≡ post.NoLoop → length loops.loops ≤ home) → IsErrAnd r (λ g. g ≡ fault_of f) → IfErr r (DontFollow os home bindings loops)
+  follow-refused f (Ok done) beyond e = absurd e
+  follow-refused f (Err g) beyond e = subst (λ (h : MoveFault). DontFollow os home bindings loops h) (sym e) (why f beyond)

@@ -5,7 +5,8 @@ use Rattle.meta_model.specs.Loaded.{Loaded}
 use Rattle.object_tree.specs.Family.{parent_of}
 use Rattle.object_tree.specs.Moving.{AreBelow, all_in_loop}
 use Rattle.object_tree.specs.Objects.{home_of}
-use Rattle.event_loops.specs.Queues.{rehomed}
+use Rattle.event_loops.specs.Queues.{Queues, rehomed}
+use Rattle.binding_graph.specs.declared.binding.Binding.{Binding}
 use Rattle.binding_graph.specs.Bindings.{lead_out}
 use Rattle.prop_bindings.specs.Fits.{Agree}
 use Rattle.delete_later.specs.declared.fault.MoveFault.{MoveFault}
@@ -57,3 +58,9 @@ moved_to objects home s = record s {
   tree = all_in_loop objects home s.tree;
   loops = rehomed objects home s.loops;
 }
+
+-- why what waits for these objects doesn't follow them
+pub data DontFollow (objects : List ℕ) (home : ℕ) (bindings : List Binding) (loops : Queues) : MoveFault → Type 0 where
+  bound_out : lead_out objects bindings ≡ true → DontFollow objects home bindings loops Bound
+  no_such_loop : length loops.loops ≤ home → DontFollow objects home bindings loops NoLoop
+  memory : DontFollow objects home bindings loops Memory

@@ -1,10 +1,11 @@
-ghost use Rattle.std.specs.Prelude.{◌≡◌, ◌↔◌, ◌<◌, ◌-◌, ◌^◌, length, IfOk, OnOk, OnErr, IsSome, Some, IsTrue, MatchOption};
+ghost use Rattle.std.specs.Prelude.{◌≡◌, ◌↔◌, ◌<◌, ◌-◌, ◌^◌, length, IfOk, OnOk, OnErr, IsSome, Some, IsTrue, MatchOption, IfErr, false};
 ghost use Rattle.object_tree.specs.Objects.{life_of, home_of};
 ghost use Rattle.object_tree.specs.Typed.{StayTyped};
-ghost use Rattle.event_loops.specs.Queues.{posted_to};
+ghost use Rattle.event_loops.specs.Queues.{posted_to, rehomed};
+ghost use Rattle.binding_graph.specs.Bindings.{lead_out};
 ghost use Rattle.event_loops.specs.declared.item.Item.TheVariants.{Deletion};
 ghost use Rattle.delete_later.specs.Scheduling.{empty, IsHoused, scheduled_in};
-ghost use Rattle.delete_later.specs.Moving.{MovesOrNot, StayAgreeing};
+ghost use Rattle.delete_later.specs.Moving.{MovesOrNot, StayAgreeing, DontFollow};
 ghost use Rattle.delete_later.specs.Ending.{died_in, ended_in, next_in, IsNext, NoneIsNext};
 
 use crate::fault::MoveFault;
@@ -110,17 +111,19 @@ impl Store {
         if self.tree.has_parent(object) {
             return Err(MoveFault::HasParent);
         }
-        if lives_in(&self.tree, object, home) {
+        let from = home_in(&self.tree, object);
+        if from == home {
             return Ok(());
         }
-        let below = self.tree.below(object)?;
+        let below = self.tree.move_below(object, from, home)?;
         let objects = below.as_slice();
-        if self.bindings.joins(objects) {
-            return Err(MoveFault::Bound);
+        match follow(&self.bindings, &mut self.loops, objects, home) {
+            Ok(()) => Ok(()),
+            Err(fault) => {
+                self.tree.set_home(objects, from);
+                Err(fault)
+            }
         }
-        self.loops.rehome(objects, home)?;
-        self.tree.set_home(objects, home);
-        Ok(())
     }
 
     /// Gives back what removed connections still take up, which no rule can tell. It is for moments at which no emission
@@ -167,12 +170,33 @@ fn is_there(loops: &Loops, home: LoopId) -> bool
     loops.name(home).is_some()
 }
 
-/// Whether an object lives in this loop.
-fn lives_in(tree: &Tree, object: ObjectId, home: LoopId) -> bool
-    ensures { IsTrue result ↔ (home_of tree.now object ≡ Some home) }
+/// The loop in which a living object lives.
+fn home_in(tree: &Tree, object: ObjectId) -> LoopId
+    requires { IsSome (life_of tree.now object) }
+    ensures { home_of tree.now object ≡ Some result }
 {
     match tree.home(object) {
-        Some(own) => own == home,
-        None => false,
+        Some(home) => home,
+        None => unreachable!(),
     }
+}
+
+/// What waits for these objects follows them to another loop, unless a binding joins one of them with another object.
+/// Where it doesn't, nothing changes.
+fn follow(
+    bindings: &UncountedBindings,
+    loops: &mut Loops,
+    objects: &[ObjectId],
+    home: LoopId,
+) -> Result<(), MoveFault>
+    ensures alone { OnOk result (lead_out objects.now bindings.now ≡ false) }
+    ensures moved { OnOk result (loops.new ≡ rehomed objects.now home loops.old) }
+    ensures refused { IfErr result (DontFollow objects.now home bindings.now loops.old) }
+    ensures err { OnErr result (loops.new ≡ loops.old) }
+{
+    if bindings.joins(objects) {
+        return Err(MoveFault::Bound);
+    }
+    loops.rehome(objects, home)?;
+    Ok(())
 }

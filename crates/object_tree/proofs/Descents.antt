@@ -1,5 +1,5 @@
 -- A walk down from an object: the objects that it has passed, and those that it has found and not passed yet.
-use Rattle.std.proofs.Common.{◌≡◌, ◌⊎◌, ⊎_elim, inl, inr, ℕ, zero, suc, ◌+◌, ◌-◌, ◌<◌, ◌≤◌, eqb, Bool, true, false, ◌||◌, ◌&&◌, not, List, [], ◌∷◌, ◌++◌, length, take, drop, get_or, Option, None, Some, refl, sym, ap, ◌∙◌, subst, arith, append-nil}
+use Rattle.std.proofs.Common.{◌≡◌, ◌⊎◌, ⊎_elim, inl, inr, ℕ, zero, suc, ◌+◌, ◌<◌, ◌≤◌, eqb, Bool, true, false, ◌||◌, ◌&&◌, not, List, [], ◌∷◌, ◌++◌, length, take, drop, get_or, Option, None, Some, refl, sym, ap, ◌∙◌, subst, arith, append-nil}
 use Rattle.std.specs.Prelude.{IsSome}
 use Rattle.std.proofs.Math.ListN.{drop_of_length-le}
 use Rattle.std.proofs.lemmas.Bool.{eqb-true, eq-eqb}
@@ -239,7 +239,7 @@ length-taken zero (x ∷ xs) h = refl
 length-taken (suc i) [] h = absurd (omega (arith, h))
 length-taken (suc i) (x ∷ xs) h = ap suc (length-taken i xs (omega (arith, h)))
 
-take-past : (i : ℕ) (xs : List ℕ) → length xs ≤ i → take i xs ≡ xs
+pub take-past : (i : ℕ) (xs : List ℕ) → length xs ≤ i → take i xs ≡ xs
 take-past zero [] h = refl
 take-past (suc i) [] h = refl
 take-past zero (x ∷ xs) h = absurd (omega (arith, h))
@@ -300,6 +300,20 @@ module _ (objects : List Object) (o : ℕ) (done rest : List ℕ) (x : ℕ) wher
         origin = λ k e. w.origin k (back-too k e);
       }
 
+pub take-next : (passed : ℕ) (found children : List ℕ) (x : ℕ) → passed < length found → x ≡ get_or found passed x → take (passed + 1) (found ++ children) ≡ take passed found ++ x ∷ []
+take-next passed found children x below is =
+    take-over (passed + 1) found children (omega (arith, below)) ∙ take_more found passed x below ∙ ap (λ (y : ℕ). take passed found ++ y ∷ []) (sym is)
+
+-- what is passed, and what is passed next, is below
+pub walk-passed : (objects : List Object) (o passed : ℕ) (found : List ℕ) → WalkedUpto objects o passed found → (k : ℕ) → is_among k (take passed found) ≡ true → Above objects o k
+walk-passed objects o passed found w k e = w.sound k (in_left k (take passed found) (drop passed found) e)
+
+pub walk-at : (objects : List Object) (o passed : ℕ) (found : List ℕ) (x : ℕ) → passed < length found → x ≡ get_or found passed x → WalkedUpto objects o passed found → Above objects o x
+walk-at objects o passed found x below is w =
+    let left : List ℕ = drop (passed + 1) found in
+    let cut : drop passed found ≡ x ∷ left = drop_more found passed x below ∙ ap (λ (y : ℕ). y ∷ left) (sym is) in
+    w.sound x (in_right x (take passed found) (drop passed found) (subst (λ (ks : List ℕ). is_among x ks ≡ true) (sym cut) (in_left x (x ∷ []) left (the_one x))))
+
 -- one more is passed, and its children come behind all
 pub walk-next : (objects : List Object) (forest : Forest objects) (o passed : ℕ) (found : List ℕ) (x : ℕ) → passed < length found → x ≡ get_or found passed x → WalkedUpto objects o passed found → WalkedUpto objects o (passed + 1) (found ++ children_of objects x)
 walk-next objects forest o passed found x below is w =
@@ -308,8 +322,7 @@ walk-next objects forest o passed found x below is w =
     let children : List ℕ = children_of objects x in
     let fits : passed + 1 ≤ length found = omega (arith, below) in
     let cut : drop passed found ≡ x ∷ left = drop_more found passed x below ∙ ap (λ (y : ℕ). y ∷ left) (sym is) in
-    let more : take (passed + 1) (found ++ children) ≡ done ++ x ∷ [] =
-    take-over (passed + 1) found children fits ∙ take_more found passed x below ∙ ap (λ (y : ℕ). done ++ y ∷ []) (sym is) in
+    let more : take (passed + 1) (found ++ children) ≡ done ++ x ∷ [] = take-next passed found children x below is in
     let next = walk-on objects forest o done left x (turned objects o done left x (subst (λ (ks : List ℕ). Walked objects o done ks) cut w)) in
     subst (λ (ks : List ℕ). Walked objects o ks (drop (passed + 1) (found ++ children))) (sym more)
     (subst (λ (ks : List ℕ). Walked objects o (done ++ x ∷ []) ks) (sym (drop-over (passed + 1) found children fits)) next)

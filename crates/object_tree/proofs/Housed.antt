@@ -123,6 +123,17 @@ distinct-in slots entries n key k distinct =
     by_object name None d = tt
     by_object name (Some o) d = d
 
+-- the children of an object are those that its slot has
+pub children-there : (slots : Slab Slot) (entries : List ObjectRecord) (n key : ℕ) → key_at entries n ≡ Some key → children_in (object_in n (get slots key)) ≡ children_of (shown_from slots 0 entries) n
+children-there slots entries n key k =
+    let (e, is, at) = entry-of entries n key k in
+    by_object e.name (object_in n (get slots key))
+    ∙ sym (ap children_in (get-some slots 0 n n entries e (omega arith) is) ∙ ap (λ (j : ℕ). (or_gone e.name (object_in n (get slots j))).children) at)
+  where
+    by_object : (name : List ℕ) (x : Option Object) → children_in x ≡ (or_gone name x).children
+    by_object name None = refl
+    by_object name (Some o) = refl
+
 -- .. and so it has an entry
 pub living-entry : (slots : Slab Slot) (entries : List ObjectRecord) (n : ℕ) → key_at entries n ≡ None → IsSome (life_of (shown_from slots 0 entries) n) → ⊥
 living-entry slots entries n k lives =

@@ -1,5 +1,5 @@
 -- What objects that move to another loop leave as it was.
-use Rattle.std.{proofs.Common.{◌≡◌, ◌≢◌, ℕ, suc, eqb, Bool, true, false, ◌||◌, cond, List, [], ◌∷◌, length, Option, None, Some, refl, sym, ap, ◌∙◌, subst}, specs.Prelude.{slice_get}, specs.Option.{option_map, option_and_then}, proofs.lemmas.Bool.{eqb-true, eq-eqb, false≢true}, proofs.lemmas.Option.{same_Some}}
+use Rattle.std.{proofs.Common.{◌≡◌, ◌≢◌, ℕ, suc, eqb, Bool, true, false, ◌||◌, cond, List, [], ◌∷◌, ◌++◌, length, Option, None, Some, refl, sym, ap, ◌∙◌, subst}, specs.Prelude.{slice_get, IsSome}, specs.Option.{option_map, option_and_then}, proofs.lemmas.Bool.{eqb-true, eq-eqb, false≢true}, proofs.lemmas.Option.{same_Some}}
 use Rattle.meta_model.specs.{Loaded.{Loaded}, Among.{is_among}}
 use Rattle.object_tree.{specs.declared.life.Life.{Life}, specs.declared.object.Object.{Object}, specs.Children.{are_distinct}, specs.Objects.{change_life, with_life, life_of, name_of, home_of}, specs.Family.{parent_of, children_in, children_of, IsChild, Above, itself, over_parent}, specs.Forest.{Forest, is_the}, specs.code.Kept.{Kept}, specs.Moving.{in_loop, all_in_loop, AreWhole, AreBelow}, specs.Typed.{AreTyped}, proofs.Above.{parent_in, child-is, parent-is}, proofs.Changing.{length-change, get-change_same, get-change_other, part-change, life-of-lives}, proofs.Families.{above-through, parent-with_life}, proofs.Keeping.{names-same}, proofs.TypedObjects.{typed-change}}
 
@@ -96,7 +96,7 @@ module _ (home : ℕ) where
       parent-in_loop os k (change_life o (in_loop home) objects)
       ∙ part-change parent_in o k (with_life (in_loop home)) objects (parent-with_life (in_loop home) (λ l. refl))
 
-  children-in_loop : (os : List ℕ) (k : ℕ) (objects : List Object) → children_of (all_in_loop os home objects) k ≡ children_of objects k
+  pub children-in_loop : (os : List ℕ) (k : ℕ) (objects : List Object) → children_of (all_in_loop os home objects) k ≡ children_of objects k
   children-in_loop [] k objects = refl
   children-in_loop (o ∷ os) k objects =
       children-in_loop os k (change_life o (in_loop home) objects)
@@ -140,6 +140,53 @@ module _ (home : ℕ) where
   typed-in_loop p [] objects all = all
   typed-in_loop p (o ∷ os) objects all =
       typed-in_loop p os (change_life o (in_loop home) objects) (typed-change p o (in_loop home) objects (λ l. refl) all)
+
+  pub in_loop-append : (os ps : List ℕ) (objects : List Object) → all_in_loop (os ++ ps) home objects ≡ all_in_loop ps home (all_in_loop os home objects)
+  in_loop-append [] ps objects = refl
+  in_loop-append (o ∷ os) ps objects = in_loop-append os ps (change_life o (in_loop home) objects)
+
+  pub lives-in_loop : (os : List ℕ) (k h : ℕ) (objects : List Object) → home_of objects k ≡ Some h → IsSome (life_of (all_in_loop os home objects) k)
+  lives-in_loop os k h objects at =
+      subst (λ (life : Option Life). IsSome life) (sym (life-in_loop os k objects)) (by_life (life_of objects k) at (is_among k os))
+    where
+      by_life : (life : Option Life) → option_map (λ (l : Life). l.home) life ≡ Some h → (b : Bool) → IsSome (cond b (option_map (in_loop home) life) life)
+      by_life None e b = absurd (cc e)
+      by_life (Some l) e true = refl
+      by_life (Some l) e false = refl
+
+  pub whole-in_loop : (os ps : List ℕ) (objects : List Object) → AreWhole os objects → AreWhole os (all_in_loop ps home objects)
+  whole-in_loop os ps objects whole parent child is =
+      whole parent child (child-is objects child parent (sym (parent-in_loop ps child objects) ∙ parent-is (all_in_loop ps home objects) child parent is))
+
+-- ---- back to the loop in which they lived
+
+restored : (from home : ℕ) (there : Option Object) → home_in there ≡ Some from → housed from (housed home there) ≡ there
+restored from home None e = refl
+restored from home (Some x) e = ap (λ (life : Option Life). Some (record x { life = life })) (by_life x.life e)
+  where
+    by_life : (life : Option Life) → option_map (λ (l : Life). l.home) life ≡ Some from → option_map (in_loop from) (option_map (in_loop home) life) ≡ life
+    by_life None f = refl
+    by_life (Some l) f = ap (λ (h : ℕ). Some (record l { home = h })) (sym (same_Some l.home from f))
+
+pub back-in_loop : (from home : ℕ) (os : List ℕ) (objects : List Object) → ((k : ℕ) → is_among k os ≡ true → home_of objects k ≡ Some from) → all_in_loop os from (all_in_loop os home objects) ≡ objects
+back-in_loop from home os objects at =
+    same-shown (all_in_loop os from (all_in_loop os home objects)) objects
+    (λ k. get-in_loop from os k (all_in_loop os home objects)
+    ∙ ap (λ (there : Option Object). cond (is_among k os) (housed from there) there) (get-in_loop home os k objects)
+    ∙ by_test k (is_among k os) (at k))
+  where
+    by_test : (k : ℕ) (b : Bool) → (b ≡ true → home_of objects k ≡ Some from) → cond b (housed from (cond b (housed home (slice_get objects k)) (slice_get objects k))) (cond b (housed home (slice_get objects k)) (slice_get objects k)) ≡ slice_get objects k
+    by_test k true here = restored from home (slice_get objects k) (here refl)
+    by_test k false here = refl
+
+-- all that is below an object lives in its loop
+pub home-below : (objects : List Object) (o h : ℕ) → Forest objects → home_of objects o ≡ Some h → {k : ℕ} → Above objects o k → home_of objects k ≡ Some h
+home-below objects o h forest lives itself = lives
+home-below objects o h forest lives (over_parent {o = child} {parent = parent} is above) =
+    forest.one_loop parent child h (child-is objects child parent is) (home-below objects o h forest lives above)
+
+pub life-home : (objects : List Object) (o h : ℕ) → home_of objects o ≡ Some h → IsSome (life_of objects o)
+life-home objects o h at = lives-in_loop h [] o h objects at
 
 -- ---- an object without a parent, and all below it
 pub same_tests : (a b : Bool) → (a ≡ true → b ≡ true) → (b ≡ true → a ≡ true) → a ≡ b

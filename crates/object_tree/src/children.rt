@@ -1,5 +1,6 @@
-ghost use Rattle.std.specs.Prelude.{◌≡◌, ◌<◌, [], ◌∷◌, ◌++◌, OnOk, OnErr, MatchOption, slice_get, true, not, length, ◌==◌, position};
+ghost use Rattle.std.specs.Prelude.{◌≡◌, ◌<◌, ◌≤◌, ◌+◌, [], ◌∷◌, ◌++◌, OnOk, OnErr, MatchOption, slice_get, true, not, length, ◌==◌, position};
 ghost use Rattle.std.specs.List.{remove};
+ghost use Rattle.std.specs.Vec.{vec_len, vec_capacity};
 ghost use Rattle.object_tree.specs.code.Adoptions.{adopted};
 ghost use Rattle.object_tree.specs.Children.{without, is_child, are_distinct};
 ghost use Rattle.object_tree.specs.Held.{are_any};
@@ -73,7 +74,8 @@ impl Children {
         Ok(number)
     }
 
-    /// Takes a child out; the others stay in their order. Where `number` is that of its adoption, it is found by halves.
+    /// Takes a child out; the others stay in their order. The first and the last are found at once, another by halves where
+    /// `number` is that of its adoption.
     pub fn remove(&mut self, child: ObjectId, number: u64)
         requires { are_distinct self.old ≡ true }
         ensures { self.new ≡ without child self.old }
@@ -83,9 +85,11 @@ impl Children {
         }
     }
 
-    /// Appends the children to a list.
+    /// Appends the children to a list. The error is that memory was refused: then the list is as it was.
+    #[inline(always)]
     pub fn push_into(&self, list: &mut Vec<ObjectId>) -> Result<(), AllocError>
-        ensures { OnOk result (list.new.items ≡ list.old.items ++ self.now) }
+        ensures ok { OnOk result (list.new.items ≡ list.old.items ++ self.now) }
+        ensures err { OnErr result (list.new.items ≡ list.old.items) }
     {
         push_adopted(&self.items, list)
     }
@@ -96,14 +100,25 @@ impl Children {
         ensures { MatchOption result (without child self.now ≡ self.now)
             (λ place. (remove self.now place ≡ without child self.now) × (place < length self.now)) }
     {
-        let place = self
-            .items
-            .partition_point(|adoption| adoption.number < number);
+        let place = self.likely_place(child, number);
         if self.is_at(place, child) {
             Some(place)
         } else {
             first_of(&self.items, child)
         }
+    }
+
+    /// Where this child stands if it is the first, the last, or was adopted under this number.
+    fn likely_place(&self, child: ObjectId, number: u64) -> usize {
+        if self.is_at(0, child) {
+            return 0;
+        }
+        let last = self.items.len().saturating_sub(1);
+        if self.is_at(last, child) {
+            return last;
+        }
+        self.items
+            .partition_point(|adoption| adoption.number < number)
     }
 
     /// Whether it is this child that comes after so many others.
@@ -124,12 +139,31 @@ fn first_of(items: &VecDeque<Adoption>, child: ObjectId) -> Option<usize>
     items.iter().position(|adoption| adoption.child == child)
 }
 
-/// Appends the children that were adopted to a list.
+/// Appends the children that were adopted to a list, for which room is made once; without memory the list is as it was.
+#[inline(always)]
 fn push_adopted(items: &VecDeque<Adoption>, list: &mut Vec<ObjectId>) -> Result<(), AllocError>
-    ensures { OnOk result (list.new.items ≡ list.old.items ++ adopted items.now.items) }
+    ensures ok { OnOk result (list.new.items ≡ list.old.items ++ adopted items.now.items) }
+    ensures err { OnErr result (list.new.items ≡ list.old.items) }
 {
-    for place in 0..items.len() {
-        list.push(items[place].child)?;
+    if items.is_empty() {
+        return Ok(());
     }
+    list.reserve(items.len())?;
+    let (front, back) = items.as_slices();
+    push_run(front, list);
+    push_run(back, list);
     Ok(())
+}
+
+/// Appends children to a list that has room for them.
+#[inline(always)]
+fn push_run(adoptions: &[Adoption], list: &mut Vec<ObjectId>)
+    requires { vec_len list.old + length adoptions.now ≤ vec_capacity list.old }
+    ensures items { list.new.items ≡ list.old.items ++ adopted adoptions.now }
+    ensures len { vec_len list.new ≡ vec_len list.old + length adoptions.now }
+    ensures capacity { vec_capacity list.new ≡ vec_capacity list.old }
+{
+    for adoption in adoptions {
+        list.push_reserved(adoption.child);
+    }
 }

@@ -7,6 +7,7 @@ mod children;
 mod creation;
 mod fault;
 mod life;
+mod moves;
 mod object;
 mod objects;
 mod seen;

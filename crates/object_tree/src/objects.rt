@@ -13,7 +13,7 @@ use crate::life::Life;
 use crate::object::Object;
 use crate::slot::{
     ObjectRecord, Slot, adoption_in, block_in, end_in, give_up, house_in, join_in, key_of, lose_in,
-    name_in, object_in, put, put_under_in, schedule_in, write_in,
+    name_in, object_in, put, put_under_in, rehouse_in, schedule_in, write_in,
 };
 use basic_types::{LoopId, Name, ObjectId, Value};
 use meta_model::NameIndex;
@@ -194,6 +194,30 @@ impl Objects {
     {
         if let Some(key) = key_of(&self.entries, object) {
             house_in(&mut self.slots, key, object, home);
+        }
+    }
+
+    /// A living object lives in this loop, and its children are appended to a list. Without memory nothing changes.
+    #[inline(always)]
+    pub fn rehouse(
+        &mut self,
+        object: ObjectId,
+        home: LoopId,
+        list: &mut Vec<ObjectId>,
+    ) -> Result<(), AllocError>
+        requires { IsSome (life_of self.old object) }
+        ensures ok { OnOk result (self.new ≡ change_life object (in_loop home) self.old) }
+        ensures list { OnOk result
+            (list.new.items ≡ list.old.items ++ children_of self.old object) }
+        ensures err { OnErr result (self.new ≡ self.old) }
+        ensures err_list { OnErr result (list.new.items ≡ list.old.items) }
+    {
+        match key_of(&self.entries, object) {
+            Some(key) => {
+                rehouse_in(&mut self.slots, key, object, home, list)?;
+                Ok(())
+            }
+            None => unreachable!(),
         }
     }
 

@@ -5,7 +5,7 @@ ghost use Rattle.std.specs.Vec.{vec_len, vec_capacity};
 ghost use Rattle.std.specs.Option.{option_copied};
 ghost use Rattle.slab.specs.Slab.{get, slab_len, Updates, HasRoomFor};
 ghost use Rattle.object_tree.specs.Objects.{with_life, blocked, scheduled, written};
-ghost use Rattle.object_tree.specs.Family.{joined_by, left_by, put_under, dead};
+ghost use Rattle.object_tree.specs.Family.{children_in, joined_by, left_by, put_under, dead};
 ghost use Rattle.object_tree.specs.Moving.{in_loop};
 ghost use Rattle.object_tree.specs.code.Slots.{new_slot, key_at, name_at, object_in, adoption_in, is_idle, AreDistinctIn, Changes, Writes, KeepsSlots, GivesUp};
 
@@ -118,6 +118,32 @@ pub fn house_in(slots: &mut Slab<Slot>, key: usize, object: ObjectId, home: Loop
             slot.object.set_home(home);
         }
     }
+}
+
+/// An object lives in another loop, if it lives, and its children are appended to a list. Without memory nothing changes.
+#[inline(always)]
+pub fn rehouse_in(
+    slots: &mut Slab<Slot>,
+    key: usize,
+    object: ObjectId,
+    home: LoopId,
+    list: &mut Vec<ObjectId>,
+) -> Result<(), AllocError>
+    requires { IsSome (object_in object (get slots.old key)) }
+    ensures ok { OnOk result (Writes key object (with_life (in_loop home)) slots.old slots.new) }
+    ensures list { OnOk result
+        (list.new.items ≡ list.old.items ++ children_in (object_in object (get slots.old key))) }
+    ensures err { OnErr result (KeepsSlots slots.old slots.new) }
+    ensures err_list { OnErr result (list.new.items ≡ list.old.items) }
+{
+    if let Some(slot) = slots.get_mut(key) {
+        if slot.serial == object.number() {
+            slot.object.children.push_into(list)?;
+            slot.object.set_home(home);
+            return Ok(());
+        }
+    }
+    unreachable!()
 }
 
 /// Writes a property of a living object.

@@ -1,4 +1,4 @@
-ghost use Rattle.std.specs.Prelude.{◌≡◌, [], ◌↔◌, length, slice_get, count_by, is_some, IsTrue, IsSome, IfOk, Err, OnErr, MatchOption};
+ghost use Rattle.std.specs.Prelude.{◌≡◌, [], ◌↔◌, length, slice_get, count_by, is_some, IsTrue, IsSome, IfOk, Err, OnErr, MatchOption, None, Some};
 ghost use Rattle.std.specs.Option.{option_copied};
 ghost use Rattle.object_tree.specs.Adopting.{AdoptsLiving};
 ghost use Rattle.object_tree.specs.Creating.{Creates};
@@ -16,6 +16,7 @@ use crate::below::below;
 use crate::creation::{may_create, new_object};
 use crate::fault::{AdoptFault, CreateFault};
 use crate::life::Life;
+use crate::moves::move_below;
 use crate::object::Object;
 use crate::objects::Objects;
 use crate::seen::{is_same, seen, seen_reference};
@@ -188,6 +189,26 @@ impl Tree {
         ensures { IfOk result (λ found. AreBelow self.now object found.items) }
     {
         below(self.alloc, &self.objects, object)
+    }
+
+    /// A living object without a parent and its living descendants, reached through living objects, go from the loop in which
+    /// they live to another: it tells which these are, so that they can go back. Where memory was refused, nothing changes.
+    pub fn move_below(
+        &mut self,
+        object: ObjectId,
+        from: LoopId,
+        home: LoopId,
+    ) -> Result<Vec<ObjectId>, AllocError>
+        requires lives { home_of self.old object ≡ Some from }
+        requires root { parent_of self.old object ≡ None }
+        ensures below { IfOk result (λ found. AreBelow self.old object found.items) }
+        ensures moved { IfOk result (λ found. self.new ≡ all_in_loop found.items home self.old) }
+        ensures back { IfOk result (λ found. all_in_loop found.items from self.new ≡ self.old) }
+        ensures err { OnErr result (self.new ≡ self.old) }
+        ensures typed { StayTyped self.old self.new }
+    {
+        let found = move_below(self.alloc, &mut self.objects, object, from, home)?;
+        Ok(found)
     }
 
     /// Each of these objects that lives does so in this loop from now on. A child and its parent are both among them, or
