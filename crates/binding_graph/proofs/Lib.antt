@@ -21,3 +21,6 @@ pub mod Dropping
 pub mod Joining
 pub mod OneByOne
 pub mod Members
+pub mod Near
+pub mod Waiting
+pub mod Held

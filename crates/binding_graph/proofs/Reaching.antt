@@ -1,6 +1,6 @@
 -- What follows from some properties is found through the readers of each property, turn by turn.
-use Rattle.std.{proofs.Common.{◌≡◌, ℕ, suc, ◌+◌, ◌-◌, ◌*◌, ◌^◌, ◌<◌, ◌≤◌, ◌⊎◌, eqb, true, false, List, [], ◌∷◌, ◌++◌, All, length, inl, inr, Option, Some, None, refl, ap, sym, ◌∙◌, subst, arith}, specs.BinaryHeap.{IsHeap, IsUpperBound}, specs.List.{Contains}, specs.List.Sorted.{IsPermutation}, specs.Ordering.{is_lt, nat_cmp, ordering_then}, specs.declared.cmp.Ordering.{Ordering}, specs.declared.cmp.Ordering.TheVariants.{Less, Equal, Greater}, proofs.lemmas.Bool.{eqb-true, false≢true}, proofs.lemmas.Bool.Decides.{nat_tests}, proofs.lemmas.List.{append_assoc}, proofs.lemmas.List.Elements.{All-cons, All-contains, All-contains_itself, All-from_recursion, All-head, All-nil, All-tail, All-weaker, Contains-append_cases, Contains-append_right}, proofs.lemmas.List.Sorted.{All-permutation, Contains-permutation}, proofs.lemmas.Map.Keys.{ge_from_not_lt}, proofs.lemmas.Option.{same_Some}}
-use Rattle.binding_graph.{specs.declared.place.Place.{Place}, specs.declared.binding.Binding.{Binding}, specs.Places.{In, Distinct}, specs.Bindings.{binding_at, without_all, Reads, ChainFrom, direct, further}, specs.code.Orders.{Free, IsAffected}, specs.code.Turns.{Turn, number_of, reader_of, by_turn, Waits, IsReader, AddsReaders, is_turn, IsFrom, IsUpTo, IsDue, IsFollowed}, proofs.Numbers.{IsOneToOne}, proofs.Places.{decide_in, In-cases, In-left, In-right}, proofs.Several.{bound-out, without_all-fewer, without_all-other}, proofs.Walks.{ordered-append}}
+use Rattle.std.{proofs.Common.{◌≡◌, ℕ, suc, ◌+◌, ◌-◌, ◌*◌, ◌^◌, ◌<◌, ◌≤◌, ◌⊎◌, eqb, true, false, List, [], ◌∷◌, ◌++◌, All, length, inl, inr, Option, Some, None, refl, ap, sym, ◌∙◌, subst, arith}, specs.List.{Contains}, specs.List.Sorted.{IsPermutation}, proofs.lemmas.Bool.{eqb-true, false≢true}, proofs.lemmas.Bool.Decides.{nat_tests}, proofs.lemmas.List.{append_assoc}, proofs.lemmas.List.Elements.{All-cons, All-contains, All-contains_itself, All-head, All-nil, All-tail, All-weaker, Contains-append_cases, Contains-append_right}, proofs.lemmas.List.Sorted.{All-permutation, Contains-permutation}, proofs.lemmas.Option.{same_Some}}
+use Rattle.binding_graph.{specs.declared.place.Place.{Place}, specs.declared.binding.Binding.{Binding}, specs.Places.{In, Distinct}, specs.Bindings.{binding_at, without_all, Reads, ChainFrom, direct, further}, specs.code.Orders.{Free, IsAffected}, specs.code.Turns.{Turn, number_of, reader_of, Waits, IsReader, AddsReaders, is_turn, IsFrom, IsUpTo, IsDue, IsFollowed}, proofs.Numbers.{IsOneToOne}, proofs.Places.{decide_in, In-cases, In-left, In-right}, proofs.Several.{bound-out, without_all-fewer, without_all-other}, proofs.Walks.{ordered-append}}
 
 -- ---- one turn more or less
 first-there : (t : Turn) (ts : List Turn) → Contains (t ∷ ts) t
@@ -15,22 +15,10 @@ first-or-later t ts s c = elim (Contains-append_cases (t ∷ []) ts s c) [
   | inr rest ↦ inr rest
 ]
 
--- the turn that is taken has the lowest number
-first-decides : (r o : Ordering) → is_lt (ordering_then r o) ≡ false → is_lt r ≡ false
-first-decides Less o h = h
-first-decides Equal o h = refl
-first-decides Greater o h = refl
-
-lowest-taken : (t : Turn) (ts : List Turn) → IsUpperBound by_turn t ts → All (λ (s : Turn). number_of t ≤ number_of s) ts
-lowest-taken t ts bound = All-weaker (λ (s : Turn). is_lt (by_turn t s) ≡ false) (λ (s : Turn). number_of t ≤ number_of s)
-    (λ s h. ge_from_not_lt (number_of s) (number_of t) (first-decides (nat_cmp (number_of s) (number_of t)) _ h))
-    ts (All-from_recursion (λ (s : Turn). is_lt (by_turn t s) ≡ false) ts bound)
-
 -- ---- the readers of a source
 module _ (F : Place → Option Binding) (N : Place → Option ℕ) (source : Place) where
-  pub adds-none : (old : List Turn) → IsHeap by_turn old → AddsReaders F N source [] old old
-  adds-none old heap = record {
-    heap = heap;
+  pub adds-none : (old : List Turn) → AddsReaders F N source [] old old
+  adds-none old = record {
     kept = λ t c. c;
     only = All-weaker (Contains old) (λ (t : Turn). Contains old t ⊎ IsReader F N source t) (λ t c. inl c) old (All-contains_itself old);
     all = λ q b i f r. absurd i;
@@ -39,7 +27,6 @@ module _ (F : Place → Option Binding) (N : Place → Option ℕ) (source : Pla
   -- a property whose binding doesn't read the source
   pub adds-skip : (readers whole : List Place) (old new : List Turn) (x : Place) → whole ≡ readers ++ x ∷ [] → AddsReaders F N source readers old new → ((b : Binding) → F x ≡ Some b → Reads b source → ⊥) → AddsReaders F N source whole old new
   adds-skip readers whole old new x is g out = subst (λ (xs : List Place). AddsReaders F N source xs old new) (sym is) (record {
-    heap = g.heap;
     kept = g.kept;
     only = g.only;
     all = λ q b i f r. elim (In-cases q readers (x ∷ []) i) [
@@ -49,9 +36,8 @@ module _ (F : Place → Option Binding) (N : Place → Option ℕ) (source : Pla
   })
 
   -- one whose binding does
-  pub adds-put : (readers whole : List Place) (old mid new : List Turn) (x : Place) (t : Turn) (b : Binding) → whole ≡ readers ++ x ∷ [] → x ≡ reader_of t → AddsReaders F N source readers old mid → IsPermutation (t ∷ mid) new → IsHeap by_turn new → F x ≡ Some b → Reads b source → N x ≡ Some (number_of t) → AddsReaders F N source whole old new
-  adds-put readers whole old mid new x t b is here g moved heap some reads number = subst (λ (xs : List Place). AddsReaders F N source xs old new) (sym is) (record {
-    heap = heap;
+  pub adds-put : (readers whole : List Place) (old mid new : List Turn) (x : Place) (t : Turn) (b : Binding) → whole ≡ readers ++ x ∷ [] → x ≡ reader_of t → AddsReaders F N source readers old mid → IsPermutation (t ∷ mid) new → F x ≡ Some b → Reads b source → N x ≡ Some (number_of t) → AddsReaders F N source whole old new
+  adds-put readers whole old mid new x t b is here g moved some reads number = subst (λ (xs : List Place). AddsReaders F N source xs old new) (sym is) (record {
     kept = λ s c. stays s (g.kept s c);
     only = All-permutation Known (t ∷ mid) new moved (All-cons Known t mid (inr reader) g.only);
     all = λ q z i f r. elim (In-cases q readers (x ∷ []) i) [
@@ -94,9 +80,8 @@ module _ (bs : List Binding) (N : Place → Option ℕ) (from : List Place) wher
   abbrev Rest : Place → Option Binding
   Rest = binding_at (without_all from bs)
 
-  pub followed-none : (turns : List Turn) → turns ≡ [] → IsHeap by_turn turns → IsFollowed Whole Rest N from [] [] None turns
-  followed-none turns none heap = record {
-    heap = heap;
+  pub followed-none : (turns : List Turn) → turns ≡ [] → IsFollowed Whole Rest N from [] [] None turns
+  followed-none turns none = record {
     due = subst (λ (ts : List Turn). All (IsDue Rest N from None) ts) (sym none) (All-nil (IsDue Rest N from None));
     past = λ q i. absurd i;
     taken = λ q i is at. cc is;
@@ -109,7 +94,6 @@ module _ (bs : List Binding) (N : Place → Option ℕ) (from : List Place) wher
   -- the readers of one more property were found
   pub followed-more : (followed whole found readers : List Place) (last : Option ℕ) (turns after : List Turn) (source : Place) → whole ≡ followed ++ source ∷ [] → IsFollowed Whole Rest N from followed found last turns → AddsReaders Whole N source readers turns after → ((q : Place) (b : Binding) → Whole q ≡ Some b → Reads b source → In q readers) → In source from ⊎ ChainFrom Rest from source → ((t : Turn) → IsReader Whole N source t → IsFrom last (number_of t)) → IsFollowed Whole Rest N from whole found last after
   followed-more followed whole found readers last turns after source is h a complete reach late = subst (λ (ps : List Place). IsFollowed Whole Rest N from ps found last after) (sym is) (record {
-    heap = a.heap;
     due = All-weaker (λ (t : Turn). Contains turns t ⊎ IsReader Whole N source t) (IsDue Rest N from last)
         (λ t known. elim known [
           | inl c ↦ All-contains (IsDue Rest N from last) turns t h.due c
@@ -143,7 +127,7 @@ module _ (bs : List Binding) (N : Place → Option ℕ) (from : List Place) wher
       ]
 
   -- the next turn
-  module _ (followed found : List Place) (last : Option ℕ) (turns after : List Turn) (t : Turn) (h : IsFollowed Whole Rest N from followed found last turns) (moved : IsPermutation turns (t ∷ after)) (heap : IsHeap by_turn after) where
+  module _ (followed found : List Place) (last : Option ℕ) (turns after : List Turn) (t : Turn) (h : IsFollowed Whole Rest N from followed found last turns) (moved : IsPermutation turns (t ∷ after)) where
     all-due : All (IsDue Rest N from last) (t ∷ after)
     all-due = All-permutation (IsDue Rest N from last) turns (t ∷ after) moved h.due
 
@@ -163,7 +147,6 @@ module _ (bs : List Binding) (N : Place → Option ℕ) (from : List Place) wher
     -- the property is one that was found, or one from which is followed
     turn-passed : In (reader_of t) from ⊎ In (reader_of t) found → IsFollowed Whole Rest N from followed found last after
     turn-passed there = record {
-      heap = heap;
       due = still-due;
       past = h.past;
       taken = h.taken;
@@ -189,10 +172,7 @@ module _ (bs : List Binding) (N : Place → Option ℕ) (from : List Place) wher
     turn-again again = turn-passed (inr (h.taken (reader_of t) (number_of t) (taken-then last (number_of t) again) turn-due.0))
 
     -- the turn of one that follows
-    module _ (one : IsOneToOne N) (rises : (q m : Place) (b : Binding) (i j : ℕ) → Whole q ≡ Some b → Reads b m → N m ≡ Some i → N q ≡ Some j → i < j) (bound : IsUpperBound by_turn t after) (new : is_turn (number_of t) last ≡ false) (out : In (reader_of t) from → ⊥) where
-      lowest : All (λ (s : Turn). number_of t ≤ number_of s) after
-      lowest = lowest-taken t after bound
-
+    module _ (one : IsOneToOne N) (rises : (q m : Place) (b : Binding) (i j : ℕ) → Whole q ≡ Some b → Reads b m → N m ≡ Some i → N q ≡ Some j → i < j) (lowest : All (λ (s : Turn). number_of t ≤ number_of s) after) (new : is_turn (number_of t) last ≡ false) (out : In (reader_of t) from → ⊥) where
       earlier : (q : Place) → In q found → (i : ℕ) × (N q ≡ Some i) × (i < number_of t)
       earlier q i = let was = h.past q i in (was.0, was.1, up-to last (number_of t) was.0 new turn-due.2 was.2)
 
@@ -206,7 +186,6 @@ module _ (bs : List Binding) (N : Place → Option ℕ) (from : List Place) wher
 
       turn-taken : IsFollowed Whole Rest N from followed (found ++ reader_of t ∷ []) (Some (number_of t)) after
       turn-taken = record {
-        heap = heap;
         due = All-weaker (Contains after) (IsDue Rest N from (Some (number_of t)))
             (λ s c.
             let was = All-contains (IsDue Rest N from last) after s still-due c in
@@ -248,14 +227,14 @@ module _ (bs : List Binding) (N : Place → Option ℕ) (from : List Place) wher
       }
 
     -- .. whose readers were found then
-    pub turn-followed : (place : Place) (after-it readers : List Place) (final : List Turn) → place ≡ reader_of t → IsOneToOne N → ((q m : Place) (b : Binding) (i j : ℕ) → Whole q ≡ Some b → Reads b m → N m ≡ Some i → N q ≡ Some j → i < j) → IsUpperBound by_turn t after → is_turn (number_of t) last ≡ false → (In place from → ⊥) → followed ≡ from ++ found → after-it ≡ found ++ place ∷ [] → AddsReaders Whole N place readers after final → ((q : Place) (b : Binding) → Whole q ≡ Some b → Reads b place → In q readers) → IsFollowed Whole Rest N from (from ++ after-it) after-it (Some (number_of t)) final
-    turn-followed place after-it readers final here one rises bound new out before gets a complete =
+    pub turn-followed : (place : Place) (after-it readers : List Place) (final : List Turn) → place ≡ reader_of t → IsOneToOne N → ((q m : Place) (b : Binding) (i j : ℕ) → Whole q ≡ Some b → Reads b m → N m ≡ Some i → N q ≡ Some j → i < j) → All (λ (s : Turn). number_of t ≤ number_of s) after → is_turn (number_of t) last ≡ false → (In place from → ⊥) → followed ≡ from ++ found → after-it ≡ found ++ place ∷ [] → AddsReaders Whole N place readers after final → ((q : Place) (b : Binding) → Whole q ≡ Some b → Reads b place → In q readers) → IsFollowed Whole Rest N from (from ++ after-it) after-it (Some (number_of t)) final
+    turn-followed place after-it readers final here one rises lowest new out before gets a complete =
         let away : In (reader_of t) from → ⊥ = subst (λ (q : Place). In q from → ⊥) here out in
         let got : after-it ≡ found ++ reader_of t ∷ [] = gets ∙ ap (λ (q : Place). found ++ q ∷ []) here in
         let adds : AddsReaders Whole N (reader_of t) readers after final = subst (λ (q : Place). AddsReaders Whole N q readers after final) here a in
         let whole : from ++ (found ++ reader_of t ∷ []) ≡ followed ++ reader_of t ∷ [] = sym (append_assoc from found (reader_of t ∷ [])) ∙ ap (λ (ps : List Place). ps ++ reader_of t ∷ []) (sym before) in
         let reach : In (reader_of t) from ⊎ ChainFrom Rest from (reader_of t) = turn-due.1 in
-        let more = followed-more followed (from ++ (found ++ reader_of t ∷ [])) (found ++ reader_of t ∷ []) readers (Some (number_of t)) after final (reader_of t) whole (turn-taken one rises bound new away) adds
+        let more = followed-more followed (from ++ (found ++ reader_of t ∷ [])) (found ++ reader_of t ∷ []) readers (Some (number_of t)) after final (reader_of t) whole (turn-taken one rises lowest new away) adds
         (subst (λ (p : Place). (q : Place) (b : Binding) → Whole q ≡ Some b → Reads b p → In q readers) here complete)
         reach
         (λ s reader.
@@ -289,11 +268,11 @@ abbrev pub bound_of : Option ℕ → ℕ
 bound_of None = 0
 bound_of (Some n) = suc n
 
--- less with each turn: fewer numbers are left, or as many and fewer turns wait, of which a heap has less than 2 ^ 63
+-- less with each turn: fewer numbers are left, or as many and fewer turns wait, of which there are less than 2 ^ 65
 abbrev pub turns_left : ℕ → Option ℕ → ℕ → ℕ
-turns_left next last waiting = (next - bound_of last) * 2 ^ 63 + waiting
+turns_left next last waiting = (next - bound_of last) * 2 ^ 65 + waiting
 
-pub turns-fewer : (next : ℕ) (last : Option ℕ) (n j k : ℕ) → is_turn n last ≡ false → IsFrom last n → n < next → k < 2 ^ 63 → turns_left next (Some n) k < turns_left next last j
+pub turns-fewer : (next : ℕ) (last : Option ℕ) (n j k : ℕ) → is_turn n last ≡ false → IsFrom last n → n < next → k < 2 ^ 65 → turns_left next (Some n) k < turns_left next last j
 turns-fewer next last n j k new from below few =
     let over : bound_of last ≤ n = by-last last new from in
     omega (arith, over, below, few)
@@ -304,3 +283,6 @@ turns-fewer next last n j k new from below few =
         let apart : m ≡ n → ⊥ = λ e. (let same : eqb m n ≡ true = grind (arith, nat_tests) in false≢true (sym new ∙ same)) in
         let least : m ≤ n = from in
         omega (arith, least, apart)
+
+pub turns-less : (next : ℕ) (last : Option ℕ) (j k : ℕ) → k < j → turns_left next last k < turns_left next last j
+turns-less next last j k less = omega (arith, less)

@@ -1,7 +1,6 @@
 //! What follows from some properties: what chains of bindings lead to from them.
 
 ghost use Rattle.std.specs.Prelude.{◌≡◌, map, IfOk, OnOk};
-ghost use Rattle.std.specs.BinaryHeap.{IsHeap, heap_items};
 ghost use Rattle.std.specs.Option.{is_some};
 ghost use Rattle.indexmap.specs.IndexMap.{get};
 ghost use Rattle.binding_graph.specs.declared.place.Place.{Place};
@@ -12,19 +11,15 @@ ghost use Rattle.binding_graph.specs.code.Keys.{key_of, same_key};
 ghost use Rattle.binding_graph.specs.code.Lists.{place_at};
 ghost use Rattle.binding_graph.specs.code.Orders.{IsAffected};
 ghost use Rattle.binding_graph.specs.code.BindingRanks.{rank_of};
-ghost use Rattle.binding_graph.specs.code.Turns.{AddsReaders, by_turn, is_turn};
+ghost use Rattle.binding_graph.specs.code.Turns.{AddsReaders, AreTurns, is_turn, turns_in};
 
 use crate::graph::Graph;
 use crate::place::{Place, contains};
+use crate::turns::Turns;
 use basic_types::Value;
 use indexmap::IndexMap;
 use std::alloc::{AllocError, Global};
 use std::cmp::Reverse;
-use std::collections::BinaryHeap;
-
-/// Readers that wait for their turn, with their numbers, of which the lowest comes first. One waits once for each of its
-/// sources.
-type Turns = BinaryHeap<Reverse<(usize, (usize, usize))>>;
 
 /// What chains of the other bindings lead to from these properties, each once, a source before its reader. These have the
 /// given values, so that none of them follows. Nothing else is looked at. None has its turn before one whose readers aren't
@@ -40,9 +35,10 @@ pub fn followers(
     ensures { IfOk result (λ found. IsAffected
         (binding_at (without_all from.now (bindings_of graph.now))) from.now found.items) }
 {
-    let mut turns = BinaryHeap::new(alloc);
+    let mut turns = Turns::new(alloc);
+    let mut likely = Likely { source: 0, slot: 0 };
     for source in from {
-        add_readers(graph, source, &mut turns)?;
+        add_readers(graph, source, &mut likely, &mut turns)?;
     }
     let mut found = Vec::new(alloc);
     let mut last = None;
@@ -56,7 +52,7 @@ pub fn followers(
         }
         last = Some(number);
         found.push(place)?;
-        add_readers(graph, &place, &mut turns)?;
+        add_readers(graph, &place, &mut likely, &mut turns)?;
     }
     Ok(found)
 }
@@ -86,16 +82,31 @@ fn is_given(from: &[Place], given: &IndexMap<(usize, usize), Value>, place: &Pla
     }
 }
 
+/// Where the next ones likely stand: they mostly come in the order in which they were installed.
+#[derive(Drop)]
+struct Likely {
+    /// The next property among those that are read.
+    source: usize,
+    /// The slot of the next binding.
+    slot: usize,
+}
+
 /// Adds the readers of a source.
-fn add_readers(graph: &Graph, source: &Place, turns: &mut Turns) -> Result<(), AllocError>
+fn add_readers(
+    graph: &Graph,
+    source: &Place,
+    likely: &mut Likely,
+    turns: &mut Turns,
+) -> Result<(), AllocError>
     requires graph { IsGraph graph.now }
-    requires heap { IsHeap by_turn (heap_items turns.old) }
-    ensures { OnOk result (AddsReaders (binding_at (bindings_of graph.now)) (rank_of graph.now.ranks)
-        source.now (map place_at (reader_keys graph.now.readers source.now)) (heap_items turns.old) (heap_items turns.new)) }
+    requires turns { AreTurns turns.old }
+    ensures turns { OnOk result (AreTurns turns.new) }
+    ensures added { OnOk result (AddsReaders (binding_at (bindings_of graph.now)) (rank_of graph.now.ranks)
+        source.now (map place_at (reader_keys graph.now.readers source.now)) (turns_in turns.old) (turns_in turns.new)) }
 {
-    let readers = graph.readers.of(source);
+    let readers = graph.readers.of_near(&mut likely.source, source);
     for key in readers {
-        let Some(number) = graph.rank_of_reader(&Place::at(*key), source) else {
+        let Some(number) = graph.rank_of_reader(&mut likely.slot, &Place::at(*key), source) else {
             continue;
         };
         turns.push(Reverse((number, *key)))?;

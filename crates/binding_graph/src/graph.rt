@@ -57,18 +57,26 @@ impl Graph {
         self.readers.of(place).is_empty()
     }
 
-    /// The number of a property, if its binding reads the source.
-    pub fn rank_of_reader(&self, reader: &Place, source: &Place) -> Option<usize>
+    /// The number of a property, if its binding reads the source. The binding is likely in this slot; the next one that is
+    /// asked for is likely in the slot behind it.
+    #[inline(always)]
+    pub fn rank_of_reader(
+        &self,
+        likely: &mut usize,
+        reader: &Place,
+        source: &Place,
+    ) -> Option<usize>
         requires { IsGraph self.now }
         ensures { RankOfReader self.now reader.now source.now result }
     {
-        let Some(found) = self.installed.reader(reader) else {
+        let Some((slot, found)) = self.installed.find_near(*likely, reader) else {
             return None;
         };
+        *likely = slot.saturating_add(1);
         if !contains(found.reads(), source) {
             return None;
         }
-        self.ranks.rank(reader)
+        self.ranks.rank_near(slot, reader)
     }
 
     /// Makes room for a binding, which is named as a reader, and for so many numbers. Where memory is refused nothing
@@ -232,7 +240,7 @@ impl Graph {
         ensures graph { IsGraph self.new }
     {
         match self.touching.take(object) {
-            Some(targets) => self.remove_touching(object, targets.items.as_slice()),
+            Some(targets) => self.remove_touching(object, targets.as_slice()),
             None => {}
         }
     }

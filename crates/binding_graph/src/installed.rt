@@ -185,6 +185,22 @@ impl Installed {
         }
     }
 
+    /// The same, where the slot likely is this one: a comparison tells that it is, and only where it isn't the binding is
+    /// looked up.
+    #[inline(always)]
+    pub fn find_near(&self, likely: usize, place: &Place) -> Option<(usize, &Reader)>
+        requires { AreKeyed self.now }
+        ensures slot { option_map (λ f. f.0) result ≡ slot_of self.now place.now }
+        ensures reader { option_map (λ f. f.1.now) result ≡ binding_at (bindings_in self.now) place.now }
+    {
+        if let Some(reader) = self.at(likely) {
+            if reader.binding().target.is_same(place) {
+                return Some((likely, reader));
+            }
+        }
+        self.find(place)
+    }
+
     /// Makes room for one more; where memory is refused nothing changes that is seen.
     pub fn reserve(&mut self) -> Result<(), AllocError>
         requires { AreKeyed self.old }

@@ -12,6 +12,7 @@ mod place;
 mod ranks;
 mod readers;
 mod touching;
+mod turns;
 
 pub use binding::Binding;
 pub use following::followers;

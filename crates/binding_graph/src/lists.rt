@@ -1,45 +1,107 @@
 //! Properties by key, each once.
 
-ghost use Rattle.std.specs.Prelude.{◌≡◌, ℕ, [], true, false, cond, OnOk, OnErr};
+ghost use Rattle.std.specs.Prelude.{◌≡◌, ℕ, [], ◌∷◌, true, false, cond, IfOk, OnOk, OnErr};
 ghost use Rattle.binding_graph.specs.code.Keys.{same_key};
-ghost use Rattle.binding_graph.specs.code.Lists.{Adds, Clears, Forgets, SameLists, is_key_in, keys_in, keys_under};
+ghost use Rattle.binding_graph.specs.code.Lists.{Adds, Clears, Forgets, SameLists, is_key_in, keys_held, keys_in, keys_under};
 
 use indexmap::{IndexMap, IndexSet};
 use std::alloc::{AllocError, Global};
 use std::hash::Hash;
+use std::slice;
 
-/// Some properties, each once, by their numbers. One is added or forgotten in time that doesn't grow with their number.
+/// Some properties, each once, by their numbers. One is added or forgotten in time that doesn't grow with their number. Most
+/// often it is one alone, which takes no memory of its own.
 #[derive(Drop)]
-pub struct Places {
-    pub items: IndexSet<(usize, usize)>,
+pub enum Places {
+    /// None.
+    Nothing,
+    /// This one.
+    One((usize, usize)),
+    /// So many, which may be none.
+    Many(IndexSet<(usize, usize)>),
 }
 
 impl Places {
-    fn new(alloc: Global) -> Places
-        ensures { result.items.keys ≡ [] }
+    /// The numbers of the properties.
+    #[inline(always)]
+    pub fn as_slice(&self) -> &[(usize, usize)]
+        ensures { result.now ≡ keys_held self.now }
     {
-        Places {
-            items: IndexSet::new(alloc),
+        match self {
+            Places::Nothing => &[],
+            Places::One(key) => slice::from_ref(key),
+            Places::Many(keys) => keys.as_slice(),
         }
     }
 
-    /// With this one, where it isn't among them. The error is that memory was refused; then nothing changes.
-    fn add(&mut self, key: (usize, usize)) -> Result<(), AllocError>
-        ensures added { OnOk result ((k : ℕ × ℕ) → is_key_in k self.new.items.keys
-            ≡ cond (same_key key k) true (is_key_in k self.old.items.keys)) }
-        ensures err { OnErr result (self.new.items.keys ≡ self.old.items.keys) }
+    /// This one alone.
+    fn one(key: (usize, usize)) -> Places
+        ensures { (k : ℕ × ℕ) → is_key_in k (keys_held result) ≡ cond (same_key key k) true false }
     {
-        self.items.insert(key)?;
+        Places::One(key)
+    }
+
+    /// With this one, where it isn't among them. The error is that memory was refused; then nothing changes.
+    fn add(&mut self, alloc: Global, key: (usize, usize)) -> Result<(), AllocError>
+        ensures added { OnOk result ((k : ℕ × ℕ) → is_key_in k (keys_held self.new)
+            ≡ cond (same_key key k) true (is_key_in k (keys_held self.old))) }
+        ensures err { OnErr result (keys_held self.new ≡ keys_held self.old) }
+    {
+        match self {
+            Places::Nothing => *self = Places::one(key),
+            Places::One(first) => *self = both(alloc, *first, key)?,
+            Places::Many(keys) => {
+                keys.insert(key)?;
+            }
+        }
         Ok(())
     }
 
     /// Without this one.
     fn forget(&mut self, key: (usize, usize))
-        ensures { (k : ℕ × ℕ) → is_key_in k self.new.items.keys
-            ≡ cond (same_key key k) false (is_key_in k self.old.items.keys) }
+        ensures { (k : ℕ × ℕ) → is_key_in k (keys_held self.new)
+            ≡ cond (same_key key k) false (is_key_in k (keys_held self.old)) }
     {
-        self.items.swap_remove(&key);
+        match self {
+            Places::Nothing => {}
+            Places::One(only) => *self = left(*only, key),
+            Places::Many(keys) => {
+                keys.swap_remove(&key);
+            }
+        }
     }
+}
+
+/// Two properties, or one if they are the same. Its error is that memory was refused.
+fn both(alloc: Global, first: (usize, usize), second: (usize, usize)) -> Result<Places, AllocError>
+    ensures { IfOk result (λ places. (k : ℕ × ℕ) → is_key_in k (keys_held places)
+        ≡ cond (same_key second k) true (is_key_in k (first ∷ []))) }
+{
+    if is_same_key(first, second) {
+        return Ok(Places::One(first));
+    }
+    let mut keys = IndexSet::with_capacity(alloc, 2)?;
+    keys.insert(first)?;
+    keys.insert(second)?;
+    Ok(Places::Many(keys))
+}
+
+/// What is left of one property without another.
+fn left(only: (usize, usize), key: (usize, usize)) -> Places
+    ensures { (k : ℕ × ℕ) → is_key_in k (keys_held result)
+        ≡ cond (same_key key k) false (is_key_in k (only ∷ [])) }
+{
+    if is_same_key(only, key) {
+        return Places::Nothing;
+    }
+    Places::One(only)
+}
+
+/// Whether these are the numbers of one property.
+fn is_same_key(a: (usize, usize), b: (usize, usize)) -> bool
+    ensures { result ≡ same_key a b }
+{
+    a.0 == b.0 && a.1 == b.1
 }
 
 /// The numbers of the properties under a key.
@@ -50,7 +112,7 @@ where
 {
     match lists.get(&key) {
         None => &[],
-        Some(places) => places.items.as_slice(),
+        Some(places) => places.as_slice(),
     }
 }
 
@@ -67,11 +129,9 @@ where
     ensures err { OnErr result (SameLists K.eq lists.old lists.new) }
 {
     if let Some(places) = lists.get_mut(&key) {
-        return places.add(place);
+        return places.add(alloc, place);
     }
-    let mut places = Places::new(alloc);
-    places.add(place)?;
-    lists.insert(key, places)?;
+    lists.insert(key, Places::one(place))?;
     Ok(())
 }
 

@@ -39,6 +39,20 @@ impl BindingRanks {
         }
     }
 
+    /// The same, of a property that likely is the one after this many others in the order in which they got their first
+    /// numbers: a comparison tells that it is, and only where it isn't it is looked up.
+    #[inline(always)]
+    pub fn rank_near(&self, likely: usize, place: &Place) -> Option<usize>
+        ensures { result ≡ rank_of self.now place.now }
+    {
+        if let Some((key, rank)) = self.by_place.as_slice().get_index(likely) {
+            if key.0 == place.object.number() && key.1 == place.property {
+                return Some(*rank);
+            }
+        }
+        self.rank(place)
+    }
+
     /// Makes room for so many numbers. Its error is that memory was refused. Where there are no more numbers, all that are
     /// given become lower; their order stays.
     pub fn reserve(&mut self, count: usize) -> Result<(), AllocError>

@@ -31,6 +31,23 @@ impl Readers {
         places_of(&self.by_source, source.key())
     }
 
+    /// The same, of a property that likely is the one after this many others in the order in which they were first read; the
+    /// next one that is asked for is likely the one behind it. A comparison tells that it is, and only where it isn't it is
+    /// looked up.
+    #[inline(always)]
+    pub fn of_near(&self, likely: &mut usize, source: &Place) -> &[(usize, usize)]
+        ensures { result.now ≡ reader_keys self.now source.now }
+    {
+        let Some((key, places)) = self.by_source.as_slice().get_index(*likely) else {
+            return self.of(source);
+        };
+        if key.0 != source.object.number() || key.1 != source.property {
+            return self.of(source);
+        }
+        *likely = likely.saturating_add(1);
+        places.as_slice()
+    }
+
     /// Adds a reader to each property that it reads. Its error is that memory was refused; then some are added.
     pub fn enlist(&mut self, alloc: Global, reader: &Reader) -> Result<(), AllocError>
         ensures kept { KeepReaders self.old self.new }

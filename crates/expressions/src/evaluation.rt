@@ -45,7 +45,8 @@ pub trait World<P> {
 
 #[tactic(auto, using(crate::proofs::Evaluating::value_equations))]
 /// The value of an expression, for what its paths lead to. `BadType` exactly where it has none: where an operator meets
-/// a value that it doesn't take. Both operands of an operator are evaluated, the left one first.
+/// a value that it doesn't take. Both operands of an operator are evaluated, the left one first; a path and a literal, as
+/// most are, are taken as they stand.
 pub fn eval<P: Drop, W: World<P>>(
     alloc: Global,
     expression: &Expr<P>,
@@ -61,6 +62,12 @@ pub fn eval<P: Drop, W: World<P>>(
             apply_unary(*operator, &operand).ok_or(EvalFault::BadType)
         }
         Expr::Binary(operator, left, right) => {
+            if let Expr::Path(path) = left.get() {
+                if let Expr::Literal(literal) = right.get() {
+                    let read = world.value(path)?;
+                    return apply_binary(alloc, *operator, &read, literal);
+                }
+            }
             let left = eval(alloc, left.get(), world)?;
             let right = eval(alloc, right.get(), world)?;
             apply_binary(alloc, *operator, &left, &right)

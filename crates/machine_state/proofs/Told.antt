@@ -108,11 +108,13 @@ module _ (p : Loaded) (objects : List Object) where
     are = is ∙ ap (λ (zs : List Entry). zs ++ line ∷ []) adds.are ∙ append_assoc old adds.lines (line ∷ []);
   }
 
+  pub has-stored : (at : Place) (has : HasValue p objects at) → values_in objects at ≡ Some has.value
+  has-stored at has = ap (option_and_then (λ (m : Life). slice_get m.values at.property)) (life-of-lives has.lives) ∙ has.is_value
+
   -- a property's line with its value
   pub told-now : (d : ℕ) (cause : Cause) (at : Place) (v : Value) (entry : Entry) → values_in objects at ≡ Some v → IsToldWith p objects d cause at v entry → IsTold p objects d cause at entry
   told-now d cause at v entry is told =
-      let stored : values_in objects at ≡ Some told.has.value = ap (option_and_then (λ (m : Life). slice_get m.values at.property)) (life-of-lives told.has.lives) ∙ told.has.is_value in
-      let same : v ≡ told.has.value = same_Some v told.has.value (sym is ∙ stored) in
+      let same : v ≡ told.has.value = same_Some v told.has.value (sym is ∙ has-stored at told.has) in
       record {
         has = told.has;
         is = told.is ∙ ap (λ (x : Value). At d (entry_kind_of cause told.has.object.name told.has.property.name (shown objects x))) same;

@@ -238,7 +238,7 @@ fn fault_of(fault: WriteFault) -> Fault
 fn writes_of(alloc: Global, sets: &[Option<Assignment>]) -> Result<Vec<Assignment>, AllocError>
     ensures { IfOk result (λ writes. writes.items ≡ writes_of (Grouped sets.now)) }
 {
-    let mut writes = Vec::new(alloc);
+    let mut writes = Vec::with_capacity(alloc, sets.len())?;
     for set in sets {
         if let Some(Assignment { place, value }) = set {
             let (place, value) = (*place, value.copy()?);

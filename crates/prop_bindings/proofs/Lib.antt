@@ -21,7 +21,6 @@ pub mod Sited
 pub mod InSlots
 pub mod InOrder
 pub mod Counting
-pub mod Near
 pub use Rattle.prop_bindings.proofs.Values
 pub use Rattle.prop_bindings.proofs.EachOnce
 pub use Rattle.prop_bindings.proofs.Alive

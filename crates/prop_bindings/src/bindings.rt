@@ -434,7 +434,7 @@ impl Bindings {
 fn from_target(alloc: Global, target: &Place, followers: &[Place]) -> Result<Vec<Place>, AllocError>
     ensures { IfOk result (λ places. places.items ≡ target.now ∷ followers.now) }
 {
-    let mut places = Vec::new(alloc);
+    let mut places = Vec::with_capacity(alloc, followers.len() + 1)?;
     places.push(*target)?;
     places.extend_from_slice(followers)?;
     Ok(places)

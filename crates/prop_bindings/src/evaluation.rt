@@ -1,7 +1,6 @@
 //! Evaluation of bindings in an order, ahead of any change.
 
 ghost use Rattle.std.specs.Prelude.{◌≡◌, ◌+◌, ◌<◌, ◌^◌, length, IfOk, OnOk};
-ghost use Rattle.std.specs.Option.{option_map};
 ghost use Rattle.expressions.specs.Evaluation.{Evaluates};
 ghost use Rattle.binding_graph.specs.declared.place.Place.{Place};
 ghost use Rattle.prop_bindings.specs.Values.{values_in};
@@ -14,7 +13,7 @@ ghost use Rattle.prop_bindings.specs.code.Parts.{IsSoundBySome, StaySound, ahead
 
 use crate::ahead::Ahead;
 use basic_types::Value;
-use binding_graph::{Binding, Installed, Numbered, Place, Reader};
+use binding_graph::{Binding, Installed, Numbered, Place};
 use expressions::{EvalFault, eval};
 use indexmap::IndexMap;
 use object_tree::Tree;
@@ -48,7 +47,7 @@ pub fn evaluate_all(
     let mut found = Vec::with_capacity(alloc, order.len())?;
     let mut likely: usize = 0;
     for place in order {
-        let Some((number, reader)) = find_near(installed, likely, place) else {
+        let Some((number, reader)) = installed.find_near(likely, place) else {
             unreachable!()
         };
         likely = number.saturating_add(1);
@@ -62,25 +61,6 @@ pub fn evaluate_all(
         found.push(Numbered { number, place })?;
     }
     Ok(found)
-}
-
-/// The binding of a property, and its slot, which likely is this one: a comparison tells that it is, and only where it isn't
-/// the binding is looked up.
-fn find_near<'i>(
-    installed: &'i Installed,
-    likely: usize,
-    place: &Place,
-) -> Option<(usize, &'i Reader)>
-    requires { AreKeyed installed.now }
-    ensures slot { option_map (λ f. f.0) result ≡ slot_of installed.now place.now }
-    ensures reader { option_map (λ f. f.1.now) result ≡ binding_at (bindings_in installed.now) place.now }
-{
-    if let Some(reader) = installed.at(likely) {
-        if reader.binding().target.is_same(place) {
-            return Some((likely, reader));
-        }
-    }
-    installed.find(place)
 }
 
 /// The value of a binding's expression over these objects, where these properties are to have these values; `BadType` where

@@ -73,7 +73,7 @@ pub fn plan_one(
 pub fn give_all(alloc: Global, writes: &[Assignment]) -> Result<GivenValues, AllocError>
     ensures { IfOk result (λ given. AreGiven writes.now given.targets.items given.values) }
 {
-    let mut targets = Vec::new(alloc);
+    let mut targets = Vec::with_capacity(alloc, writes.len())?;
     let mut values = IndexMap::with_capacity(alloc, writes.len())?;
     for write in writes {
         let value = write.value.copy()?;

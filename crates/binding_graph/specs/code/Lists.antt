@@ -1,9 +1,10 @@
 -- Properties by key, each once.
-use Rattle.std.specs.Prelude.{◌≡◌, ℕ, Bool, true, false, cond, List, [], Option, Some, None, if◌then◌else◌}
+use Rattle.std.specs.Prelude.{◌≡◌, ℕ, Bool, true, false, cond, List, [], ◌∷◌, Option, Some, None, if◌then◌else◌}
 use Rattle.std.specs.List.{list_any}
 use Rattle.indexmap.specs.IndexMap.{IndexMap, get}
 use Rattle.binding_graph.specs.declared.place.Place.{Place}
 use Rattle.binding_graph.specs.declared.lists.Places.{Places}
+use Rattle.binding_graph.specs.declared.lists.Places.TheVariants.{Nothing, One, Many}
 use Rattle.binding_graph.specs.Places.{property_of}
 use Rattle.binding_graph.specs.code.Keys.{same_key}
 
@@ -11,9 +12,14 @@ use Rattle.binding_graph.specs.code.Keys.{same_key}
 abbrev pub place_at : ℕ × ℕ → Place
 place_at k = property_of k.0 k.1
 
+abbrev pub keys_held : Places → List (ℕ × ℕ)
+keys_held Nothing = []
+keys_held (One k) = k ∷ []
+keys_held (Many ks) = ks.keys
+
 abbrev pub keys_in : Option Places → List (ℕ × ℕ)
 keys_in None = []
-keys_in (Some places) = places.items.keys
+keys_in (Some places) = keys_held places
 
 -- the property with these numbers is among them
 abbrev pub is_key_in : ℕ × ℕ → List (ℕ × ℕ) → Bool

@@ -1,13 +1,15 @@
 -- What follows from some properties, found in the order of their numbers: readers that were found wait for their turn, and
 -- the lowest number comes first. A reader waits once for each of its sources that was followed.
-use Rattle.std.specs.Prelude.{◌≡◌, ℕ, ◌≤◌, ◌⊎◌, eqb, Bool, false, List, All, Option, None, Some}
-use Rattle.std.specs.BinaryHeap.{IsHeap}
+use Rattle.std.specs.Prelude.{◌≡◌, ℕ, ◌≤◌, ◌⊎◌, eqb, Bool, false, List, [], ◌∷◌, ◌++◌, All, Option, None, Some}
+use Rattle.std.specs.BinaryHeap.{IsHeap, heap_items}
 use Rattle.std.specs.List.{Contains}
+use Rattle.std.specs.List.Sorted.{IsPermutation}
 use Rattle.std.specs.Ordering.{nat_cmp, ordering_then}
 use Rattle.std.specs.declared.cmp.Ordering.{Ordering}
 use Rattle.std.specs.declared.cmp.Reverse.{Reverse}
 use Rattle.binding_graph.specs.declared.place.Place.{Place}
 use Rattle.binding_graph.specs.declared.binding.Binding.{Binding}
+use Rattle.binding_graph.specs.declared.turns.Turns.{Turns}
 use Rattle.binding_graph.specs.Places.{In, Distinct}
 use Rattle.binding_graph.specs.Bindings.{Reads, ChainFrom}
 use Rattle.binding_graph.specs.code.Lists.{place_at}
@@ -31,6 +33,33 @@ by_turn s t = ordering_then (nat_cmp t.0.0 s.0.0) (ordering_then (nat_cmp t.0.1.
 abbrev pub Waits : List Turn → Place → Type 0
 Waits ts q = (t : Turn) × Contains ts t × (reader_of t ≡ q)
 
+-- ---- how they wait
+abbrev pub AtLeast : ℕ → List Turn → Type 0
+AtLeast n [] = Unit {0}
+AtLeast n (t ∷ ts) = (n ≤ number_of t) × AtLeast n ts
+
+abbrev pub AtMost : ℕ → List Turn → Type 0
+AtMost n [] = Unit {0}
+AtMost n (t ∷ ts) = (number_of t ≤ n) × AtMost n ts
+
+-- none has a number below that of one before it
+abbrev pub InTurn : List Turn → Type 0
+InTurn [] = Unit {0}
+InTurn (t ∷ ts) = AtLeast (number_of t) ts × InTurn ts
+
+abbrev pub turns_in : Turns → List Turn
+turns_in x = heap_items x.others ++ x.row.items
+
+pub record AreTurns (x : Turns) : Type 0 where
+  pub heap : IsHeap by_turn (heap_items x.others)
+  pub row : InTurn x.row.items
+  pub last : AtMost x.last x.row.items
+
+-- this one is taken, and none that is left has a lower number
+pub record IsNext (old new : List Turn) (t : Turn) : Type 0 where
+  pub moved : IsPermutation old (t ∷ new)
+  pub lowest : All (λ (s : Turn). number_of t ≤ number_of s) new
+
 -- ---- the readers of a source
 -- F binds the turn's property, which N gives the turn's number, and the binding reads the source
 abbrev pub IsReader : (Place → Option Binding) → (Place → Option ℕ) → Place → Turn → Type 0
@@ -40,7 +69,6 @@ IsReader F N source t =
 -- the properties whose bindings by F read the source wait too, as far as these readers name them
 pub record AddsReaders (F : Place → Option Binding) (N : Place → Option ℕ) (source : Place) (readers : List Place)
     (old new : List Turn) : Type 0 where
-  pub heap : IsHeap by_turn new
   pub kept : (t : Turn) → Contains old t → Contains new t
   pub only : All (λ (t : Turn). Contains old t ⊎ IsReader F N source t) new
   pub all : (q : Place) (b : Binding) → In q readers → F q ≡ Some b → Reads b source → Waits new q
@@ -71,7 +99,6 @@ IsDue G N from last t =
 -- the turn of these was, which follow by G, and the readers by F of the followed ones were found
 pub record IsFollowed (F G : Place → Option Binding) (N : Place → Option ℕ) (from followed found : List Place)
     (last : Option ℕ) (turns : List Turn) : Type 0 where
-  pub heap : IsHeap by_turn turns
   pub due : All (IsDue G N from last) turns
   pub past : (q : Place) → In q found → (i : ℕ) × (N q ≡ Some i) × IsUpTo last i
   pub taken : (q : Place) (i : ℕ) → last ≡ Some i → N q ≡ Some i → In q found

@@ -99,7 +99,7 @@ impl<'w> Telling<'w> {
             (after self.now.planned.now self.now.tree.now) self.now.depth sets.now
             self.now.planned.now.changed lines.items) }
     {
-        let mut lines = Vec::new(alloc);
+        let mut lines = Vec::with_capacity(alloc, sets.len().saturating_add(1))?;
         lines.push(Entry::At(self.depth, EntryKind::Grouped))?;
         self.add_sets(sets, &mut lines)?;
         let followers = self.followers(written);
@@ -202,14 +202,13 @@ impl<'w> Telling<'w> {
     /// The value that a property will have, which likely stands at this place among the planned ones.
     #[inline(always)]
     fn value(&self, place: &Place, likely: usize) -> Option<&Value>
+        requires { HasValue self.now.meta.now self.now.tree.now place.now }
         ensures { option_copied result ≡
             values_in (after self.now.planned.now self.now.tree.now) place.now }
     {
-        let planned = self.planned.value_near(likely, place);
-        let own = self.tree.value(place.object, place.property)?;
-        match planned {
+        match self.planned.value_near(likely, place) {
             Some(value) => Some(value),
-            None => Some(own),
+            None => self.tree.value(place.object, place.property),
         }
     }
 }

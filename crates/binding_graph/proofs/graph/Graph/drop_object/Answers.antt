@@ -28,7 +28,7 @@ remove_touching-requires-clause-touched c = λ q b o some t passes.
 
 pub remove_touching-requires-clause-listed : goal.remove_touching-requires-clause-listed
 remove_touching-requires-clause-listed c = λ q b some t.
-    ap (is_key_in (key_of q)) (c.as_slice.ensures.keys ∙ c.in-Some.ensures.taken) ∙ c.requires.touched q b c.args.object some t refl
+    ap (is_key_in (key_of q)) (c.as_slice.ensures ∙ c.in-Some.ensures.taken) ∙ c.requires.touched q b c.args.object some t refl
 
 pub returns-in-None-clause-left : goal.returns-in-None-clause-left
 returns-in-None-clause-left c =

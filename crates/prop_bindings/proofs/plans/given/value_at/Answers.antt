@@ -1,7 +1,7 @@
 use Rattle.std.proofs.Common.{◌≡◌, ◌∙◌, ℕ, List, ap, sym, arith}
 use Rattle.std.specs.Prelude.{slice_get}
 use Rattle.basic_types.specs.declared.value.Value.{Value}
-use Rattle.prop_bindings.proofs.Near.{found-at, same_pair}
+use Rattle.binding_graph.proofs.Near.{found-at, same_pair}
 use Rattle.prop_bindings.proofs.plans.given.value_at.Goals as goal
 
 pub returns : goal.returns

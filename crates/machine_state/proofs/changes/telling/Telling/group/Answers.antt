@@ -39,5 +39,5 @@ returns c =
     let changed = self.planned.now.changed in
     let followers : c.followers-followers.result.now ≡ others ps changed = c.followers-followers.ensures ∙ ap (λ (qs : List Place). others qs changed) c.requires.written ∙ others-once ps changed in
     group-told self.meta.now (after self.planned.now self.tree.now) self.depth c.args.sets.now c.followers-followers.result.now changed c.push.new.self.items c.add_sets.new.lines.items c.add_followers.new.lines.items
-    (c.in_ok-push.ensures.items ∙ ap (λ (zs : List Entry). zs ++ At self.depth entry_kind.Grouped ∷ []) c.new-lines.ensures.items)
+    (c.in_ok-push.ensures.items ∙ ap (λ (zs : List Entry). zs ++ At self.depth entry_kind.Grouped ∷ []) c.in_ok-lines.ensures.items)
     c.in_ok-add_sets.ensures followers c.in_ok-add_followers.ensures
