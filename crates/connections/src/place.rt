@@ -68,6 +68,9 @@ impl CellPlaces {
     pub fn forget(&mut self, more: usize, cells: &Slab<Cell>)
         ensures { Tidies cells.now self.old.items.items self.new.items.items }
     {
+        if self.items.is_empty() {
+            return;
+        }
         self.stale = self.stale.saturating_add(more);
         if self.stale > self.items.len() / 2 {
             keep_leading(cells, &mut self.items);

@@ -18,19 +18,19 @@ const FEW: usize = 64;
 pub fn forget(cells: &Slab<Cell>, lists: &mut Lists, keys: &[usize])
     ensures { TidiesLists cells.now lists.old lists.new }
 {
+    lists.all.forget(keys.len(), cells);
     for key in keys {
         forget_one(cells, lists, *key);
     }
 }
 
-/// The place of the connection in a cell, which was removed, leads nowhere any more. Those under its objects stay until the
-/// lists are tidied.
+/// The place under its signal of the connection in a cell, which was removed, leads nowhere any more. Those under its objects
+/// stay until the lists are tidied.
 fn forget_one(cells: &Slab<Cell>, lists: &mut Lists, key: usize)
     ensures { TidiesLists cells.now lists.old lists.new }
 {
     if let Some(cell) = cells.get(key) {
         let pair = (cell.connection.sender.number(), cell.connection.signal);
-        lists.all.forget(1, cells);
         forget_places(&mut lists.by_signal, lists.near_signal, pair, 1, cells);
     }
 }
