@@ -1,5 +1,5 @@
 -- One output after another, and what a writer took in the end.
-use Rattle.std.proofs.Common.{ℕ, ◌+◌, ◌<◌, ◌≡◌, List, [], ◌∷◌, ◌++◌, take, length, get_or, Option, Some, None, Result, Ok, Err, IsNone, IsSome, IsTrue, IfNone, OnOk, OnErr, ◌⊎◌, inl, inr, rules, append_assoc, append-nil, refl, sym, ap, subst, ◌∙◌}
+use Rattle.std.proofs.Common.{ℕ, ◌+◌, ◌<◌, ◌≡◌, List, [], ◌∷◌, ◌++◌, take, length, get_or, codes, Option, Some, None, Result, Ok, Err, IsNone, IsSome, IsTrue, IfNone, OnOk, OnErr, ◌⊎◌, inl, inr, rules, append_assoc, append-nil, refl, sym, ap, subst, ◌∙◌}
 use Rattle.std.specs.List.{flat_map}
 use Rattle.std.proofs.lemmas.List.{take_more}
 use Rattle.std.proofs.lemmas.List.Concat.{flat_map-append}
@@ -41,6 +41,23 @@ sent {W} {contents} {a} {b} {c} {x} {y} p q =
 -- .. a text that is spelled otherwise
 pub as_text : {W : Type 0} {contents : W → Option (List ℕ)} {a b : Output W (List ℕ)} {x y : List ℕ} → Puts contents a b x → y ≡ x → Puts contents a b y
 as_text {contents = contents} {a = a} {b = b} p is = subst (Puts contents a b) (sym is) p
+
+-- .. in pieces that are put together otherwise
+pub gathered : (w m b x : List ℕ) → w ++ ((m ++ b) ++ x) ≡ ((w ++ m) ++ b) ++ x
+gathered w m b x = ap (λ l. w ++ l) (append_assoc m b x) ∙ sym (append_assoc w m (b ++ x)) ∙ sym (append_assoc (w ++ m) b x)
+
+pub member_behind : (p w o d m e : List ℕ) → p ++ ((w ++ ((o ++ d) ++ m)) ++ e) ≡ ((((p ++ w) ++ o) ++ d) ++ m) ++ e
+member_behind p w o d m e =
+    sym (append_assoc p (w ++ ((o ++ d) ++ m)) e) ∙ ap (λ l. l ++ e) (sym (append_assoc p w ((o ++ d) ++ m)) ∙ gathered (p ++ w) o d m)
+
+-- .. a line that ends with a call
+pub call_gathered : (w m j : List ℕ) → (w ++ (((m ++ codes "(") ++ j) ++ codes ")")) ++ codes "\n" ≡ (((w ++ m) ++ codes "(") ++ j) ++ codes ")\n"
+call_gathered w m j =
+    ap (λ l. l ++ codes "\n") (sym (append_assoc w ((m ++ codes "(") ++ j) (codes ")")) ∙ ap (λ l. l ++ codes ")") (gathered w m (codes "(") j))
+    ∙ append_assoc (((w ++ m) ++ codes "(") ++ j) (codes ")") (codes "\n")
+
+pub no_arguments : (w m : List ℕ) → (w ++ (((m ++ codes "(") ++ []) ++ codes ")")) ++ codes "\n" ≡ (w ++ m) ++ codes "()\n"
+no_arguments w m = call_gathered w m [] ∙ ap (λ l. l ++ codes ")\n") (append-nil ((w ++ m) ++ codes "(")) ∙ append_assoc (w ++ m) (codes "(") (codes ")\n")
 
 -- .. and one more item of a list
 pub one_item : {W X : Type 0} {contents : W → Option (List ℕ)} {a b c : Output W (List ℕ)} (text : X → List ℕ) (items : List X) (n : ℕ) (d item : X) → n < length items → item ≡ get_or items n d →

@@ -1,6 +1,6 @@
 //! The text of the output's lines.
 
-ghost use Rattle.std.specs.Prelude.{◌++◌, codes, decimal};
+ghost use Rattle.std.specs.Prelude.{◌++◌, ◌<◌, ◌≤◌, codes, decimal};
 ghost use Rattle.std.specs.Fmt.{signed_decimal};
 ghost use Rattle.std.specs.List.{join_by};
 ghost use Rattle.command_lines.specs.Lines.{newline, value_text, call_text, given_text, action_text, actions_text, member_text, property_text, entry_kind_text, entry_line, trace_text};
@@ -263,8 +263,108 @@ impl<W: Write> Output<'_, W> {
         }
     }
 
-    /// Adds the line of what happens at a depth.
+    /// Adds the line of what happens at a depth. Most depths have one digit.
     fn at_depth(&mut self, depth: usize, entry_kind: &EntryKind)
+        ensures { Puts W.contents self.old self.new (decimal depth ++ codes " " ++ entry_kind_text entry_kind.now ++ newline) }
+    {
+        if depth < 10 {
+            self.at_small_depth(depth, entry_kind);
+        } else {
+            self.at_any_depth(depth, entry_kind);
+        }
+    }
+
+    /// The same, with what most lines begin with added at once.
+    #[inline(always)]
+    fn at_small_depth(&mut self, depth: usize, entry_kind: &EntryKind)
+        requires { depth < 10 }
+        ensures { Puts W.contents self.old self.new (decimal depth ++ codes " " ++ entry_kind_text entry_kind.now ++ newline) }
+    {
+        let digit = b'0' + depth as u8;
+        match entry_kind {
+            EntryKind::Emitted {
+                object,
+                signal,
+                arguments,
+                blocked,
+            } => {
+                if *blocked {
+                    self.at_any_depth(depth, entry_kind);
+                } else {
+                    let word = [digit, b' ', b'e', b'm', b'i', b't', b' '];
+                    self.call_line(&word, object, signal, arguments.as_slice());
+                }
+            }
+            EntryKind::Called {
+                object,
+                slot,
+                arguments,
+            } => {
+                let word = [digit, b' ', b'c', b'a', b'l', b'l', b' '];
+                self.call_line(&word, object, slot, arguments.as_slice());
+            }
+            EntryKind::Written {
+                object,
+                property,
+                value,
+            } => {
+                let word = [digit, b' ', b's', b'e', b't', b' '];
+                self.change_line(&word, object, property, value);
+            }
+            EntryKind::Followed {
+                object,
+                property,
+                value,
+            } => {
+                let word = [digit, b' ', b'f', b'o', b'l', b'l', b'o', b'w', b' '];
+                self.change_line(&word, object, property, value);
+            }
+            _ => self.at_any_depth(depth, entry_kind),
+        }
+    }
+
+    /// Adds a line that ends with a call, after a word.
+    #[inline(always)]
+    fn call_line<const N: usize>(
+        &mut self,
+        word: &[u8; N],
+        object: &Name,
+        method: &Name,
+        arguments: &[Shown],
+    )
+        requires few { N ≤ 16 }
+        ensures { let call = call_text (member_text object.now method.now) arguments.now in
+            Puts W.contents self.old self.new (word.now ++ call ++ newline) }
+    {
+        if arguments.is_empty() {
+            self.put_member(word, object, method, b"()\n");
+        } else {
+            self.put_member(word, object, method, b"(");
+            self.arguments(arguments);
+            self.put_word(b")\n");
+        }
+    }
+
+    /// Adds a line that ends with a property and its new value, after a word.
+    #[inline(always)]
+    fn change_line<const N: usize>(
+        &mut self,
+        word: &[u8; N],
+        object: &Name,
+        property: &Name,
+        value: &Shown,
+    )
+        requires few { N ≤ 16 }
+        ensures { Puts W.contents self.old self.new (word.now ++ property_text object.now property.now value.now ++ newline) }
+    {
+        self.put_member(word, object, property, b" ");
+        self.value(value);
+        self.put_byte(b'\n');
+    }
+
+    /// Adds the line of what happens at a depth, piece by piece.
+    #[inline(never)]
+    fn at_any_depth(&mut self, depth: usize, entry_kind: &EntryKind)
         ensures { Puts W.contents self.old self.new (decimal depth ++ codes " " ++ entry_kind_text entry_kind.now ++ newline) }
     {
         self.depth(depth);

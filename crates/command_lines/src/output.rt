@@ -1,9 +1,11 @@
-ghost use Rattle.std.specs.Prelude.{◌≡◌, [], ◌∷◌, IsTrue, OnErr};
+ghost use Rattle.std.specs.Prelude.{◌≡◌, [], ◌∷◌, ◌++◌, ◌≤◌, IsTrue, OnErr};
+ghost use Rattle.command_lines.specs.Lines.{member_text};
 ghost use Rattle.command_lines.specs.Sent.{Puts, Ends, IsBegun, Takes};
 
 use crate::fault::WriteFault;
 use crate::pending::Pending;
 use crate::watched::{Failing, write};
+use basic_types::Name;
 use std::alloc::Global;
 use std::io;
 use std::io::{ErrorKind, Write};
@@ -73,6 +75,39 @@ impl<'w, W: Write> Output<'w, W> {
         if !self.pending.add_word(word) {
             self.pass_on(word);
         }
+    }
+
+    /// Adds a word, `object.member` and another word.
+    #[inline(always)]
+    pub fn put_member<const N: usize, const M: usize>(
+        &mut self,
+        before: &[u8; N],
+        object: &Name,
+        member: &Name,
+        behind: &[u8; M],
+    )
+        requires few { (N ≤ 16) × (M ≤ 16) }
+        ensures { Puts W.contents self.old self.new
+            (before.now ++ member_text object.now member.now ++ behind.now) }
+    {
+        if !self
+            .pending
+            .add_member(before, object.bytes(), member.bytes(), behind)
+        {
+            self.pass_member_on(before, object, member, behind);
+        }
+    }
+
+    /// Adds the same piece by piece.
+    #[cold]
+    #[inline(never)]
+    fn pass_member_on(&mut self, before: &[u8], object: &Name, member: &Name, behind: &[u8])
+        ensures { Puts W.contents self.old self.new
+            (before.now ++ member_text object.now member.now ++ behind.now) }
+    {
+        self.put(before);
+        self.member(object, member);
+        self.put(behind);
     }
 
     /// Writes what is still pending. The answer is this exit status; or else why a write failed, at the first one that did.

@@ -1,6 +1,6 @@
 //! Bytes that are kept back until they are worth a write.
 
-ghost use Rattle.std.specs.Prelude.{◌≡◌, [], ◌∷◌, ◌++◌, ◌+◌, ◌≤◌, length, take};
+ghost use Rattle.std.specs.Prelude.{◌≡◌, [], ◌∷◌, ◌++◌, ◌+◌, ◌≤◌, codes, length, take};
 ghost use Rattle.std.specs.Bool.{OnTrue, OnFalse};
 
 use std::alloc::Global;
@@ -11,6 +11,9 @@ const FIRST_ROOM: usize = 512;
 
 /// So many bytes are kept back at most.
 const MOST_ROOM: usize = 65536;
+
+/// A name has so many bytes at most, where it is added together with what stands around it.
+const SHORT: usize = 16;
 
 /// Bytes that are kept back, at most 65,536 of them, as far as there is memory for them. Contracts see their list. Room for
 /// them is made as they come: a few lines take little, and no block of memory that is so large that the allocator first
@@ -116,6 +119,32 @@ impl Pending {
         true
     }
 
+    /// Adds a word, two names with a dot between them, and another word, and answers whether it did: not where a name is
+    /// long, or there may be too little room. Then nothing is added. That there is room is asked once for all of them.
+    #[inline(always)]
+    pub fn add_member<const N: usize, const M: usize>(
+        &mut self,
+        before: &[u8; N],
+        object: &[u8],
+        member: &[u8],
+        behind: &[u8; M],
+    ) -> bool
+        requires few { (N ≤ 16) × (M ≤ 16) }
+        ensures added { OnTrue result (self.new
+            ≡ self.old ++ before.now ++ object.now ++ codes "." ++ member.now ++ behind.now) }
+        ensures full { OnFalse result (self.new ≡ self.old) }
+    {
+        if object.len() > SHORT || member.len() > SHORT {
+            return false;
+        }
+        let room = self.room.as_mut_slice();
+        if room.len() - self.len < N + M + 2 * SHORT + 1 {
+            return false;
+        }
+        self.len = write_member(room, self.len, before, object, member, behind);
+        true
+    }
+
     /// Keeps none any more.
     pub fn clear(&mut self)
         ensures { self.new ≡ [] }
@@ -136,7 +165,36 @@ fn write_word<const N: usize>(room: &mut [u8], at: usize, word: &[u8; N])
     }
 }
 
+/// Writes a word, two names with a dot between them, and another word over the bytes from a place on: the place behind them.
+#[inline(always)]
+fn write_member<const N: usize, const M: usize>(
+    room: &mut [u8],
+    at: usize,
+    before: &[u8; N],
+    object: &[u8],
+    member: &[u8],
+    behind: &[u8; M],
+) -> usize
+    requires { at + N + length object.now + 1 + length member.now + M ≤ length room.old }
+    ensures within { result ≤ length room.new }
+    ensures len { length room.new ≡ length room.old }
+    ensures written { take result room.new
+        ≡ take at room.old ++ before.now ++ object.now ++ codes "." ++ member.now ++ behind.now }
+{
+    write_word(room, at, before);
+    let object_at = at + N;
+    write_bytes(room, object_at, object);
+    let dot_at = object_at + object.len();
+    write_word(room, dot_at, b".");
+    let member_at = dot_at + 1;
+    write_bytes(room, member_at, member);
+    let behind_at = member_at + member.len();
+    write_word(room, behind_at, behind);
+    behind_at + M
+}
+
 /// Writes bytes over those from a place on. Names are short, and most are two words that meet or overlap.
+#[inline(always)]
 fn write_bytes(room: &mut [u8], at: usize, bytes: &[u8])
     requires { at + length bytes.now ≤ length room.old }
     ensures len { length room.new ≡ length room.old }
