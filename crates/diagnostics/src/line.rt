@@ -1,21 +1,43 @@
 //! Lines with and without tokens.
 
-ghost use Rattle.std.specs.Prelude.{IfOk};
-ghost use Rattle.diagnostics.specs.Blank.{TellsTokens};
+ghost use Rattle.std.specs.Prelude.{IfOk, IsTrue};
+ghost use Rattle.diagnostics.specs.Blank.{IsBlank, TellsTokens};
 
+use basic_types::{is_blank, is_letter};
 use std::alloc::{AllocError, Global};
 use std::str;
 use texts::{LexFault, tokens};
 
-/// Whether there is more in a line than blanks and a comment.
+/// Whether there is more in a line than blanks and a comment: of a script's line, whether it has an event.
 pub fn has_tokens(alloc: Global, line: &[u8]) -> Result<bool, AllocError>
     ensures { IfOk result (TellsTokens line.now) }
 {
+    // Most lines with tokens begin with a word, and needn't be cut.
+    if begins_with_word(line) {
+        return Ok(true);
+    }
     match tokens(alloc, line) {
         Ok(tokens) => Ok(!tokens.is_empty()),
         Err(LexFault::BadByte) => Ok(true),
         Err(LexFault::Memory) => Err(AllocError),
     }
+}
+
+/// Whether a word or a name begins the line, behind blanks.
+fn begins_with_word(line: &[u8]) -> bool
+    ensures { IsTrue result → ¬ IsBlank line.now }
+{
+    let mut rest = line;
+    while let Some((first, others)) = rest.split_first() {
+        if is_letter(*first) {
+            return true;
+        }
+        if !is_blank(*first) {
+            return false;
+        }
+        rest = others;
+    }
+    false
 }
 
 /// What a text has in front of these words and a number, which end it, without blanks at its ends, and the number.

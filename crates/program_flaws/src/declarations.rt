@@ -5,6 +5,7 @@ mod finding;
 mod flaws;
 mod further;
 mod likely;
+mod lost;
 mod natives;
 mod sentence;
 mod types;

@@ -7,6 +7,7 @@ mod declarations;
 mod edge;
 mod expression;
 mod ill_typed;
+mod named_classes;
 mod names;
 mod node_name;
 mod obstacles;

@@ -72,7 +72,7 @@ impl Drop for ProgramPlaces {
 impl ProgramPlaces {
     /// The places of the program that the text is.
     pub fn of(alloc: Global, text: &[u8]) -> Result<ProgramPlaces, AllocError> {
-        let tokens = placed(alloc, text)?;
+        let tokens = placed_or_none(alloc, text)?;
         let mut places = ProgramPlaces {
             names: names_among(alloc, tokens.as_slice())?,
             tokens,
@@ -241,8 +241,8 @@ impl ClassParts {
     }
 }
 
-/// The tokens of the text; none where it has a byte with which none begins.
-fn placed(alloc: Global, text: &[u8]) -> Result<Items<PlacedToken>, AllocError> {
+/// The tokens of the text, or of a line; none where it has a byte with which none begins.
+pub fn placed_or_none(alloc: Global, text: &[u8]) -> Result<Items<PlacedToken>, AllocError> {
     match placed_tokens(alloc, text) {
         Ok(placed) => Ok(placed),
         Err(PlaceFault::BadByte(_)) => Ok(Items::new(alloc)),

@@ -1,9 +1,9 @@
 //! Where the rows of a certificate's text begin: its lines that have tokens.
 
+use crate::places::placed_or_none;
 use diagnostics::TextPlace;
 use rank_check::{Cause, Extra, Loose, Mistake};
 use std::alloc::{AllocError, Global};
-use texts::{PlaceFault, placed_tokens};
 
 /// So many rows stand before those of nodes: the version's and the bound's.
 const SETTINGS: usize = 2;
@@ -34,11 +34,7 @@ pub fn line_place(alloc: Global, text: &[u8], line: usize) -> Result<TextPlace, 
 
 /// Where the row of this number begins, from 0.
 fn row_place(alloc: Global, text: &[u8], row: usize) -> Result<TextPlace, AllocError> {
-    let placed = match placed_tokens(alloc, text) {
-        Ok(placed) => placed,
-        Err(PlaceFault::BadByte(_)) => return Ok(TextPlace { line: 1, column: 1 }),
-        Err(PlaceFault::Memory) => return Err(AllocError),
-    };
+    let placed = placed_or_none(alloc, text)?;
     let mut rows = 0usize;
     let mut end = 0usize;
     for token in placed.as_slice() {

@@ -44,6 +44,17 @@ fn member_at(class: &Class, member: Member) -> Option<DeclarationRef<'_>> {
 }
 
 impl<'a> DeclarationRef<'a> {
+    /// The name of the class that has it, or that it is.
+    pub fn class_name(&self) -> Option<&'a Name> {
+        match self {
+            DeclarationRef::Class(class)
+            | DeclarationRef::Property(class, _)
+            | DeclarationRef::Signal(class, _)
+            | DeclarationRef::Slot(class, _) => Some(&class.name),
+            DeclarationRef::Wire(_) | DeclarationRef::Owns(_) | DeclarationRef::Site(_) => None,
+        }
+    }
+
     /// The parameters of a method.
     pub fn parameters(&self) -> &'a [Parameter] {
         match self {

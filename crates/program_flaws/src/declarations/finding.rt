@@ -10,6 +10,24 @@ pub struct DeclarationFlaw {
     pub sentence: String,
     /// What to write instead, where that is known.
     pub advice: Option<&'static str>,
+    /// What to write where that isn't known, and no name that could stand there is like the wrong one.
+    pub otherwise: Option<&'static str>,
+}
+
+impl DeclarationFlaw {
+    /// The same, with what to write where nothing better is known.
+    pub fn or(self, otherwise: &'static str) -> DeclarationFlaw {
+        let DeclarationFlaw {
+            sentence,
+            advice,
+            ..
+        } = self;
+        DeclarationFlaw {
+            sentence,
+            advice,
+            otherwise: Some(otherwise),
+        }
+    }
 }
 
 /// This sentence, with what to write instead.
@@ -19,5 +37,9 @@ pub fn found(
     advice: Option<&'static str>,
 ) -> Result<DeclarationFlaw, AllocError> {
     let sentence = sentence(alloc, pieces)?;
-    Ok(DeclarationFlaw { sentence, advice })
+    Ok(DeclarationFlaw {
+        sentence,
+        advice,
+        otherwise: None,
+    })
 }

@@ -2,6 +2,7 @@
 
 ghost use Rattle.std.specs.Prelude.{◌≤◌, length, IfOk, IfSome};
 
+use crate::declarations::finding::DeclarationFlaw;
 use crate::declarations::likely::likely;
 use crate::declarations::words::ReportedOffence;
 use crate::source::ReadProgram;
@@ -31,19 +32,23 @@ pub fn declaration_flaw(
 /// The flaw, in words.
 pub fn told_flaw(told: &ReportedOffence, offence: &Offence) -> Result<Flaw, AllocError> {
     let finding = told.finding(offence)?;
-    let advice = advice_on(told, offence, finding.advice)?;
+    let advice = advice_on(told, offence, &finding)?;
     told.flaw(finding.sentence.as_str(), advice)
 }
 
-/// What to write instead: this where it is known, else a name that is like the one that is wrong.
+/// What to write instead: what is known of it, else a name that is like the one that is wrong.
 fn advice_on(
     told: &ReportedOffence,
     offence: &Offence,
-    known: Option<&'static str>,
+    finding: &DeclarationFlaw,
 ) -> Result<Option<String>, AllocError> {
-    match (known, offence.number()) {
-        (Some(advice), _) => Ok(Some(String::from_str(told.alloc, advice)?)),
-        (None, 11 | 13..=15) => likely(told.alloc, told.program, told.name),
-        (None, _) => Ok(None),
+    if finding.advice.is_none()
+        && let Some(advice) = likely(told, &offence.reason)?
+    {
+        return Ok(Some(advice));
+    }
+    match finding.advice.or(finding.otherwise) {
+        Some(advice) => Ok(Some(String::from_str(told.alloc, advice)?)),
+        None => Ok(None),
     }
 }

@@ -2,6 +2,7 @@
 //! in its place, and the rest loaded again.
 
 use crate::declarations::flaws::told_flaw;
+use crate::declarations::lost::Lost;
 use crate::declarations::words::ReportedOffence;
 use crate::places::ProgramPlaces;
 use crate::source::ReadProgram;
@@ -30,28 +31,25 @@ pub fn further_declaration_flaws(
 ) -> Result<Vec<FurtherFlaw>, AllocError> {
     let mut flaws = Vec::new(alloc);
     let mut left = Vec::from_slice(alloc, text)?;
-    let mut is_lost = false;
+    let mut lost = Lost::new(alloc);
     let rounds = MOST_LOADED.checked_div(text.len()).unwrap_or(0);
     for round in 0..rounds {
         if flaws.len() >= most {
             break;
         }
-        let Some(next) = next_flaw(alloc, left.as_slice())? else {
+        let Some(next) = next_flaw(alloc, left.as_slice(), &mut lost)? else {
             break;
         };
         let NextFlaw {
             further,
-            is_independent,
+            follows,
             repair,
         } = next;
-        if round > 0 && (!is_lost || is_independent) {
+        if round > 0 && !follows {
             flaws.push(further)?;
         }
         match repair {
-            Some(repair) => {
-                blank(&mut left, repair);
-                is_lost = is_lost || repair.loses;
-            }
+            Some(repair) => blank(&mut left, repair),
             None => break,
         }
     }
@@ -62,8 +60,8 @@ pub fn further_declaration_flaws(
 #[derive(Drop)]
 struct NextFlaw {
     further: FurtherFlaw,
-    /// Whether it would be there whatever else is declared.
-    is_independent: bool,
+    /// Whether it may be there only since something else was taken out.
+    follows: bool,
     repair: Option<Repair>,
 }
 
@@ -72,8 +70,6 @@ struct NextFlaw {
 struct Repair {
     begin: usize,
     end: usize,
-    /// Whether something else may refer to it.
-    loses: bool,
 }
 
 /// Puts blanks in the place of these bytes, but for the ends of lines.
@@ -87,13 +83,13 @@ fn blank(text: &mut Vec<u8>, repair: Repair) {
     }
 }
 
-/// The first flaw of this text; `None` where it has none that is known.
-fn next_flaw(alloc: Global, text: &[u8]) -> Result<Option<NextFlaw>, AllocError> {
+/// The first flaw of this text, from which this is lost; `None` where it has none that is known. What goes with it is lost then too.
+fn next_flaw(alloc: Global, text: &[u8], lost: &mut Lost) -> Result<Option<NextFlaw>, AllocError> {
     let Some(read) = ReadProgram::of(alloc, text)? else {
         return Ok(None);
     };
     match load(alloc, &read.program) {
-        Err(LoadFault::Offence(offence)) => offence_in(alloc, &read, &offence),
+        Err(LoadFault::Offence(offence)) => offence_in(alloc, &read, &offence, lost),
         Err(LoadFault::Memory) => Err(AllocError),
         Ok(_) => Ok(None),
     }
@@ -104,48 +100,41 @@ fn offence_in(
     alloc: Global,
     read: &ReadProgram,
     offence: &Offence,
+    lost: &mut Lost,
 ) -> Result<Option<NextFlaw>, AllocError> {
     let Some(told) = ReportedOffence::of(alloc, read, offence.declaration, offence.name) else {
         return Ok(None);
     };
     let flaw = told_flaw(&told, offence)?;
+    let follows = lost.explains(&told, &offence.reason)?;
+    lost.add(&told, &offence.reason)?;
     Ok(Some(NextFlaw {
         further: FurtherFlaw {
             number: offence.number(),
             flaw,
         },
-        is_independent: !matches!(
-            offence.reason,
-            Reason::NoBase(_) | Reason::NoMember(_) | Reason::NoType(_)
-        ),
+        follows,
         repair: repair_of(&read.places, offence, &told),
     }))
 }
 
 /// What to take out for this offence.
 fn repair_of(places: &ProgramPlaces, offence: &Offence, told: &ReportedOffence) -> Option<Repair> {
-    let (begin, end, loses) = match (&offence.reason, offence.declaration) {
+    let (begin, end) = match (&offence.reason, offence.declaration) {
         // The base, with its colon.
-        (Reason::NoBase(_), _) => (told.token.checked_sub(1)?, told.token, true),
+        (Reason::NoBase(_), _) => (told.token.checked_sub(1)?, told.token),
         (Reason::BadNotify(_), _) => (
             told.token.checked_sub(1)?,
             places.next(told.token, Symbol::Close)?,
-            false,
         ),
         (Reason::NoMember(_), Declaration::Member(_, Member::Slot(_))) => {
-            let (begin, end) = work_around(places, offence.declaration, told)?;
-            (begin, end, false)
+            work_around(places, offence.declaration, told)?
         }
-        (_, Declaration::Member(..) | Declaration::Class(_)) => {
-            let is_repeated = matches!(offence.reason, Reason::DuplicateMember(_));
-            (told.part.first, told.part.last, !is_repeated)
-        }
-        _ => (told.part.first, told.part.last, false),
+        _ => (told.part.first, told.part.last),
     };
     Some(Repair {
         begin: places.token(begin)?.at,
         end: places.token(end)?.end,
-        loses,
     })
 }
 

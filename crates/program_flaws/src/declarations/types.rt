@@ -38,7 +38,10 @@ pub fn unfit_type(
     name: usize,
 ) -> Result<DeclarationFlaw, AllocError> {
     match unfit {
-        Unfit::Unknown => missing(told, name, " isn't a type", unknown_advice(told)),
+        Unfit::Unknown => {
+            let flaw = missing(told, name, " isn't a type", unknown_advice(told))?;
+            Ok(flaw.or("a type is `int`, `bool`, `QString`, or a pointer to a class"))
+        }
         Unfit::ClassAlone => {
             let advice = "put a `*` behind the class";
             let words = " is a class, and objects are told by pointers to them";
@@ -135,5 +138,5 @@ fn kind_advice(name: &Name) -> Option<&'static str> {
             return Some(*advice);
         }
     }
-    Some("a type is `int`, `bool`, `QString`, or a pointer to a class")
+    None
 }

@@ -5,6 +5,7 @@ use crate::declarations::sentence::SentencePiece;
 use crate::declarations::words::ReportedOffence;
 use basic_types::{QType, Sig};
 use class_outlines::{End, Missing, Near, Sought};
+use diagnostics::literal_for;
 use std::alloc::AllocError;
 
 /// That the name isn't declared, of which this is looked for.
@@ -31,13 +32,10 @@ pub fn undeclared(
 }
 
 fn no_parameter(told: &ReportedOffence, is_property: bool) -> Result<DeclarationFlaw, AllocError> {
-    let name = told.name.bytes();
-    let advice = if name == b"nullptr".as_slice() || name == b"NULL".as_slice() {
-        Some("write `null`")
-    } else if is_property {
+    let advice = if is_property {
         Some("a property of the object itself is written `this.p`")
     } else {
-        None
+        literal_for(told.name.bytes())
     };
     told.around("", " is no parameter of the slot", advice)
 }

@@ -180,15 +180,16 @@ impl<'a> ReportedOffence<'a> {
 
     /// The class of this number.
     pub fn class(&self, number: usize) -> SentencePiece<'a> {
-        match self
-            .program
-            .classes
-            .as_slice()
-            .get(number.saturating_sub(1))
-        {
-            Some(class) if number > 0 => SentencePiece::Name(&class.name),
-            _ => SentencePiece::Known(b"QObject"),
+        match self.class_name(number) {
+            Some(name) => SentencePiece::Name(name),
+            None => SentencePiece::Known(b"QObject"),
         }
+    }
+
+    /// The name of the class of this number; `None` for `QObject`.
+    pub fn class_name(&self, number: usize) -> Option<&'a Name> {
+        let place = number.checked_sub(1)?;
+        Some(&self.program.classes.as_slice().get(place)?.name)
     }
 }
 
@@ -212,16 +213,15 @@ fn bad_notifier<'a>(
                 "behind `notify` stands the signal's signature, with just the types that it is declared with",
             ),
         ),
-        Near::Nothing => (
-            " isn't a signal of the class or its bases",
-            Some("declare the signal in the class, or leave `notify` out"),
-        ),
+        Near::Nothing => (" isn't a signal of the class or its bases", None),
     };
-    found(
-        alloc,
-        &[SentencePiece::Sig(sig), SentencePiece::Words(words)],
-        advice,
-    )
+    let pieces = [SentencePiece::Sig(sig), SentencePiece::Words(words)];
+    let flaw = found(alloc, &pieces, advice)?;
+    Ok(if near == Near::Nothing {
+        flaw.or("declare the signal in the class, or leave `notify` out")
+    } else {
+        flaw
+    })
 }
 
 /// A notify signal that takes something else than its property's value.
