@@ -13,7 +13,7 @@ mod read_classes;
 mod reading;
 mod scopes;
 
-pub use catalogue::{Catalogue, Listed, NoClass, QOBJECT};
+pub use catalogue::{Catalogue, Lineage, Listed, NoClass, QOBJECT};
 pub use fault::ImportFault;
 pub use importing::{Choice, Import, MissingMember, Placed};
 pub use kinds::{LanguageType, Mapped, mapped_type};

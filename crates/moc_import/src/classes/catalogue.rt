@@ -124,23 +124,22 @@ impl<'f> Catalogue<'f> {
     }
 
     /// The base of a class.
-    pub fn base(&self, class: usize) -> Option<usize> {
+    fn base(&self, class: usize) -> Option<usize> {
         self.classes().get(class)?.base
+    }
+
+    /// The class and its bases, the nearest first; none for `QObject`.
+    pub fn lineage(&self, class: Option<usize>) -> Lineage<'_, 'f> {
+        Lineage {
+            catalogue: self,
+            next: class,
+            left: self.classes().len(),
+        }
     }
 
     /// Whether each object of the one class is one of the other.
     pub fn is_below(&self, class: Option<usize>, above: Option<usize>) -> bool {
-        let mut at = class;
-        for _ in 0..self.classes().len() {
-            let Some(number) = at else {
-                break;
-            };
-            if at == above {
-                return true;
-            }
-            at = self.base(number);
-        }
-        above.is_none()
+        above.is_none() || self.lineage(class).any(|number| Some(number) == above)
     }
 
     /// Whether the name is an enum's or a flag's: with a scope of any class; else of this class, a base of it, or what its
@@ -152,20 +151,41 @@ impl<'f> Catalogue<'f> {
         if !self.read.has_enum(name) {
             return false;
         }
-        let mut at = Some(class);
-        for _ in 0..self.classes().len() {
-            let Some(number) = at else {
-                break;
-            };
-            let Some(listed) = self.classes().get(number) else {
-                break;
-            };
-            if self.read.has_enum_around(listed.class, name) {
+        for number in self.lineage(Some(class)) {
+            if let Some(listed) = self.classes().get(number)
+                && self.read.has_enum_around(listed.class, name)
+            {
                 return true;
             }
-            at = listed.base;
         }
         false
+    }
+}
+
+/// A class and its bases.
+#[derive(Clone, Copy)]
+pub struct Lineage<'c, 'f> {
+    catalogue: &'c Catalogue<'f>,
+    next: Option<usize>,
+    /// So many follow at most: no base is below its class.
+    left: usize,
+}
+
+impl Iterator for Lineage<'_, '_> {
+    ghost use Rattle.std.specs.Iterator.{at_most};
+
+    type Item = usize;
+
+    ghost remaining = { λ lineage. at_most lineage.left };
+
+    fn next(&mut self) -> Option<usize> {
+        let number = self.next?;
+        if self.left == 0 {
+            return None;
+        }
+        self.left -= 1;
+        self.next = self.catalogue.base(number);
+        Some(number)
     }
 }
 

@@ -254,15 +254,12 @@ impl<'f> Import<'f> {
 
     /// The property that the slot of this class writes, by its name and type.
     pub fn written(&self, class: usize, slot: &ImportedMethod<'f>) -> Option<&'f str> {
-        let mut at = Some(class);
-        for _ in 0..self.members.len() {
-            let number = at?;
+        for number in self.catalogue.lineage(Some(class)) {
             for property in self.members.get(number)?.properties.as_slice() {
                 if writes(slot, property) {
                     return Some(property.moc.name.as_str());
                 }
             }
-            at = self.catalogue.base(number);
         }
         None
     }
@@ -285,13 +282,10 @@ impl<'f> Import<'f> {
 
     /// The first class, from this one up, that has the member itself.
     fn holder(&self, class: usize, sought: WantedMember<'_>) -> Option<usize> {
-        let mut at = Some(class);
-        for _ in 0..self.members.len() {
-            let number = at?;
+        for number in self.catalogue.lineage(Some(class)) {
             if sought.is_in(self.members.get(number)?) {
                 return Some(number);
             }
-            at = self.catalogue.base(number);
         }
         None
     }

@@ -104,15 +104,10 @@ impl<'i, 'f> Lookup<'i, 'f> {
         if name == OBJECT_NAME {
             return Ok(LanguageType::Text);
         }
-        let mut at = class;
-        for _ in 0..self.catalogue().classes().len() {
-            let Some(number) = at else {
-                break;
-            };
+        for number in self.catalogue().lineage(class) {
             if let Some(kind) = self.own_property(number, name) {
                 return Ok(kind);
             }
-            at = self.catalogue().base(number);
         }
         let sort = SoughtSort::Property;
         Err(self.no_member(alloc, SoughtMember { class, sort, name })?)
@@ -183,20 +178,14 @@ impl<'i, 'f> Lookup<'i, 'f> {
         if sought.sort == SoughtSort::Property {
             nearest.look_at(alloc, OBJECT_NAME)?;
         }
-        let mut at = sought.class;
-        for _ in 0..self.catalogue().classes().len() {
-            let Some(number) = at else {
-                break;
-            };
-            let Some(own) = self.import.members.get(number) else {
-                break;
-            };
-            if sought.sort == SoughtSort::Property {
-                look_at_properties(alloc, own, &mut nearest)?;
-            } else {
-                look_at_methods(alloc, own, sought.sort, &mut nearest)?;
+        for class in self.catalogue().lineage(sought.class) {
+            if let Some(own) = self.import.members.get(class) {
+                if sought.sort == SoughtSort::Property {
+                    look_at_properties(alloc, own, &mut nearest)?;
+                } else {
+                    look_at_methods(alloc, own, sought.sort, &mut nearest)?;
+                }
             }
-            at = self.catalogue().base(number);
         }
         Ok(nearest)
     }

@@ -43,21 +43,15 @@ impl<'i, 'f> Lookup<'i, 'f> {
     ) -> (Option<&'i ImportedMethod<'f>>, usize) {
         let mut found = None;
         let mut count = 0usize;
-        let mut at = sought.class;
-        for _ in 0..self.catalogue().classes().len() {
-            let Some(class) = at else {
-                break;
-            };
-            let Some(own) = self.import.members.get(class) else {
-                break;
-            };
-            for method in own.methods.as_slice() {
-                if sought.is_called_as(method) && self.takes(class, method, types) {
-                    found = Some(method);
-                    count = count.saturating_add(1);
+        for class in self.catalogue().lineage(sought.class) {
+            if let Some(own) = self.import.members.get(class) {
+                for method in own.methods.as_slice() {
+                    if sought.is_called_as(method) && self.takes(class, method, types) {
+                        found = Some(method);
+                        count = count.saturating_add(1);
+                    }
                 }
             }
-            at = self.catalogue().base(class);
         }
         (found, count)
     }
@@ -120,30 +114,22 @@ impl<'i, 'f> Lookup<'i, 'f> {
         Ok(text)
     }
 
-    /// Adds the signatures of all signals, or all slots, of the name.
+    /// Adds the signatures of all signals, or all slots, of the name to a text that is empty.
     fn push_signatures(
         self,
         text: &mut String,
         sought: SoughtMember<'_>,
     ) -> Result<(), AllocError> {
-        let mut before = "`";
-        let mut at = sought.class;
-        for _ in 0..self.catalogue().classes().len() {
-            let Some(class) = at else {
-                break;
-            };
-            let Some(own) = self.import.members.get(class) else {
-                break;
-            };
-            for method in own.methods.as_slice() {
-                if sought.is_called_as(method) {
-                    text.push_str(before)?;
-                    push_signature(text, self.catalogue(), method)?;
-                    text.push_str("`")?;
-                    before = ", `";
+        for class in self.catalogue().lineage(sought.class) {
+            if let Some(own) = self.import.members.get(class) {
+                for method in own.methods.as_slice() {
+                    if sought.is_called_as(method) {
+                        text.push_str(if text.is_empty() { "`" } else { ", `" })?;
+                        push_signature(text, self.catalogue(), method)?;
+                        text.push_str("`")?;
+                    }
                 }
             }
-            at = self.catalogue().base(class);
         }
         Ok(())
     }
