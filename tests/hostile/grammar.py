@@ -14,9 +14,10 @@ RESERVED = set(
     b"delete later this true false null const auto direct queued unique single".split()
 )
 KINDS = {b"auto", b"direct", b"queued"}
-# A declaration, and the most of it, in a class or in a program, and of a program's bytes: by the standard limits, and with `--wide`.
-STANDARD = {b"bytes": MOST_BYTES, b"property": 32, b"method": 64, b"class": 256, b"native": 64, b"wire": 1000, b"owns": 1000, b"binding": 1000}
-WIDE = {b"bytes": 33554432, b"property": 256, b"method": 1024, b"class": 8192, b"native": 64, b"wire": 16384, b"owns": 16384, b"binding": 16384}
+# A declaration, and the most of it, in a class or in a program, and of the bytes of a program and of a name that it declares: by
+# the standard limits, and with `--wide`.
+STANDARD = {b"bytes": MOST_BYTES, b"name": MOST_BYTES, b"property": 32, b"method": 64, b"class": 256, b"native": 64, b"wire": 1000, b"owns": 1000, b"binding": 1000}
+WIDE = {b"bytes": 33554432, b"name": 255, b"property": 256, b"method": 1024, b"class": 8192, b"native": 64, b"wire": 16384, b"owns": 16384, b"binding": 16384}
 
 
 class Refused(Exception):
@@ -158,6 +159,10 @@ class Reading:
             raise Refused
         return self.take()
 
+    def declared(self):
+        """A name that is declared here."""
+        self.is_large |= len(self.name()) > self.limits[b"name"]
+
     def is_name(self):
         return bool(NAME.match(self.next())) and self.next() not in RESERVED
 
@@ -207,12 +212,12 @@ class Reading:
 
     def named_type(self):
         self.type()
-        self.name()
+        self.declared()
 
     def type_and_name(self):
         self.type()
         if self.is_name():
-            self.name()
+            self.declared()
 
     # ---- programs
 
@@ -225,7 +230,7 @@ class Reading:
             {b"class": self.klass, b"wire": self.wire, b"owns": self.owns, b"binding": self.binding}[word]()
 
     def klass(self):
-        self.name()
+        self.declared()
         if self.has(b":"):
             self.name()
         self.need(b"{")
@@ -247,18 +252,18 @@ class Reading:
         self.need(b";")
 
     def signal(self):
-        self.name()
+        self.declared()
         self.parameters(self.type_and_name)
         self.need(b";")
 
     def slot(self):
-        self.name()
+        self.declared()
         self.parameters(self.named_type)
         self.block()
 
     def native(self):
         self.count(self.counts, b"native", self.limits)
-        self.name()
+        self.declared()
         self.parameters(self.type_and_name)
         for word, part in ((b"reads", self.name), (b"emits", self.signature), (b"sets", self.name)):
             if self.has(word):
@@ -285,10 +290,11 @@ class Reading:
 
     def formal(self):
         self.name()
-        self.name()
+        self.declared()
 
     def binding(self):
-        self.formal()
+        self.declared()
+        self.name()
         self.need(b".")
         self.name()
         self.parameters(self.formal)
