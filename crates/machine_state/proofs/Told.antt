@@ -1,12 +1,12 @@
 -- What is written down of a change is determined, and one more property is written down.
-use Rattle.std.{proofs.Common.{◌≡◌, ℕ, List, [], ◌∷◌, ◌++◌, Option, None, Some, refl, ap, sym, ◌∙◌, subst, append_assoc}, proofs.lemmas.List.{append-nil}, specs.Prelude.{slice_get, IfSome}, specs.List.{AllByRecursion, AllZip}, specs.Option.{option_and_then}, proofs.lemmas.Option.{same_Some}}
+use Rattle.std.{proofs.Common.{◌≡◌, ℕ, List, [], ◌∷◌, ◌++◌, Option, None, Some, refl, ap, sym, ◌∙◌, subst, append_assoc, length, take}, proofs.Math.Seq.{take-append_seam}, proofs.lemmas.List.{append-nil}, specs.Prelude.{slice_get, IfSome}, specs.List.{AllByRecursion, AllZip}, specs.Option.{option_and_then}, proofs.lemmas.Option.{same_Some}}
 use Rattle.basic_types.specs.declared.value.Value.{Value}
 use Rattle.meta_model.specs.{declared.object.MetaObject.{MetaObject}, declared.object.MetaProperty.{MetaProperty}, Loaded.{Loaded}}
 use Rattle.object_tree.{specs.declared.life.Life.{Life}, specs.declared.object.Object.{Object}, proofs.Changing.{life-of-lives}}
 use Rattle.binding_graph.specs.declared.place.Place.{Place}
 use Rattle.prop_bindings.specs.{declared.plans.assignment.Assignment.{Assignment}, Changes.{places_in}, Values.{values_in}}
 use Rattle.trace_entries.specs.{declared.entry.Entry.{Entry}, declared.entry.Entry.TheVariants.{At}}
-use Rattle.machine_state.specs.{declared.changes.telling.Cause.{Cause}, declared.changes.telling.Cause.TheVariants.{Write, Follow}, Objects.{shown}, Telling.{HasValue, IsTold, IsToldWith, IsSetTold, AreTold, IsGroupTold, Assigning, Alone, Grouped, IsAssigningTold, entry_kind_of, others, writes_of}, code.Planned.{AddsFollowers, AddsSets}}
+use Rattle.machine_state.specs.{declared.changes.telling.Cause.{Cause}, declared.changes.telling.Cause.TheVariants.{Write, Follow}, Objects.{shown}, Telling.{HasValue, IsTold, IsToldWith, IsSetTold, AreTold, IsGroupTold, Assigning, Alone, Grouped, IsAssigningTold, entry_kind_of, others, writes_of}, code.Planned.{AddsFollowers, AddsGroup, AddsSets, AddsTold, Extends}}
 use Rattle.trace_entries.specs.declared.entry.EntryKind.TheVariants as entry_kind
 
 -- each set of a group whose written properties are such writes one that is
@@ -14,6 +14,18 @@ pub each-set : (Has : Place → Type 0) (sets : List (Option Assignment)) → Al
 each-set Has [] all = tt
 each-set Has (None ∷ sets) all = (tt, each-set Has sets all)
 each-set Has (Some a ∷ sets) all = (all.0, each-set Has sets all.1)
+
+-- ---- what was added is taken off again
+pub extends-more : (old mid new : List Entry) → Extends old mid → Extends mid new → Extends old new
+extends-more old mid new first then =
+    record { more = first.more ++ then.more; are = then.are ∙ ap (λ (zs : List Entry). zs ++ then.more) first.are ∙ append_assoc old first.more then.more }
+
+pub taken-off : (old full new : List Entry) (told : ℕ) → told ≡ length old → Extends old full → new ≡ take told full → new ≡ old
+taken-off old full new told count extends cut =
+    cut
+    ∙ ap (λ (n : ℕ). take n full) count
+    ∙ ap (take (length old)) extends.are
+    ∙ take-append_seam old extends.more
 
 module _ (p : Loaded) (objects : List Object) where
   -- ---- one answer
@@ -120,13 +132,36 @@ module _ (p : Loaded) (objects : List Object) where
         is = told.is ∙ ap (λ (x : Value). At d (entry_kind_of cause told.has.object.name told.has.property.name (shown objects x))) same;
       }
 
-  -- a group's own line, those of its sets and those of the others
-  pub group-told : (d : ℕ) (sets : List (Option Assignment)) (followers changed : List Place) (own with_sets whole : List Entry) → own ≡ At d entry_kind.Grouped ∷ [] → AddsSets p objects d sets own with_sets → followers ≡ others (places_in (writes_of (Grouped sets))) changed → AddsFollowers p objects d followers with_sets whole → IsGroupTold p objects d sets changed whole
-  group-told d sets followers changed own with_sets whole first adds is follow =
+  -- the line of a property that is written or bound, and those of the others
+  pub change-told : (d : ℕ) (cause : Cause) (first : Place) (changed followers : List Place) (old mid new : List Entry) (line : Entry) → IsTold p objects d cause first line → mid ≡ old ++ line ∷ [] → followers ≡ others (first ∷ []) changed → AddsFollowers p objects d followers mid new → AddsTold p objects d cause first changed old new
+  change-told d cause first changed followers old mid new line told own is follow =
       record {
-        lines = adds.lines;
-        more = follow.lines;
-        sets_told = adds.told;
-        others_told = subst (λ (qs : List Place). AllZip (IsTold p objects d Follow) qs follow.lines) is follow.told;
-        are = follow.are ∙ ap (λ (zs : List Entry). zs ++ follow.lines) (adds.are ∙ ap (λ (zs : List Entry). zs ++ adds.lines) first);
+        lines = line ∷ follow.lines;
+        told = record {
+          line = line;
+          lines = follow.lines;
+          is_told = told;
+          others_told = subst (λ (qs : List Place). AllZip (IsTold p objects d Follow) qs follow.lines) is follow.told;
+          are = refl;
+        };
+        are = follow.are ∙ ap (λ (zs : List Entry). zs ++ follow.lines) own ∙ append_assoc old (line ∷ []) follow.lines;
+      }
+
+  -- a group's own line, those of its sets and those of the others
+  pub group-told : (d : ℕ) (sets : List (Option Assignment)) (followers changed : List Place) (old own with_sets whole : List Entry) → own ≡ old ++ At d entry_kind.Grouped ∷ [] → AddsSets p objects d sets own with_sets → followers ≡ others (places_in (writes_of (Grouped sets))) changed → AddsFollowers p objects d followers with_sets whole → AddsGroup p objects d sets changed old whole
+  group-told d sets followers changed old own with_sets whole first adds is follow =
+      let group : Entry = At d entry_kind.Grouped in
+      record {
+        lines = group ∷ adds.lines ++ follow.lines;
+        told = record {
+          lines = adds.lines;
+          more = follow.lines;
+          sets_told = adds.told;
+          others_told = subst (λ (qs : List Place). AllZip (IsTold p objects d Follow) qs follow.lines) is follow.told;
+          are = refl;
+        };
+        are =
+            follow.are
+            ∙ ap (λ (zs : List Entry). zs ++ follow.lines) (adds.are ∙ ap (λ (zs : List Entry). zs ++ adds.lines) first ∙ append_assoc old (group ∷ []) adds.lines)
+            ∙ append_assoc old (group ∷ adds.lines) follow.lines;
       }

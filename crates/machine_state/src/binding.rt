@@ -1,6 +1,6 @@
-//! Writes, and what changes with them. A change is planned, the lines that tell of it are made, and the trace takes
-//! them, before anything else changes: where memory is refused for one of these, the world is as it was. A write of a property
-//! that no binding reads, as most are, needs no plan.
+//! Writes, and what changes with them. A change is planned, and the lines that tell of it are added to the trace, before
+//! anything else changes: where memory is refused for one of these, the world is as it was. A write of a property that no
+//! binding reads, as most are, needs no plan.
 
 ghost use Rattle.std.specs.Prelude.{◌≡◌, [], ◌∷◌, ◌<◌, IfOk, IfErr};
 ghost use Rattle.object_tree.specs.Objects.{change_life, written};
@@ -12,9 +12,9 @@ ghost use Rattle.prop_bindings.specs.Fits.{Agree, FitsAt};
 ghost use Rattle.prop_bindings.specs.Plans.{after};
 ghost use Rattle.trace_entries.specs.declared.fault.Fault.TheVariants.{Memory};
 ghost use Rattle.machine_state.specs.code.Trying.{fault_of, IsUnplanned, TriesWrite};
-ghost use Rattle.machine_state.specs.Telling.{Grouped, IsGroupTold, writes_of};
+ghost use Rattle.machine_state.specs.Telling.{Grouped, writes_of};
 ghost use Rattle.machine_state.specs.code.Changing.{noted, with_bound, WritesIn};
-ghost use Rattle.machine_state.specs.code.Planned.{CanBeTold, WillWrite, WillWriteOne, WillWriteAll};
+ghost use Rattle.machine_state.specs.code.Planned.{WillWrite, WillWriteOne, WillWriteAll};
 
 use crate::changes::{Cause, Telling, line_of};
 use crate::world::World;
@@ -25,7 +25,7 @@ use prop_bindings::{
     Assignment, ChangedPlaces, Place, PlannedGroup, PlannedWrite, WriteFault, fits,
 };
 use std::alloc::{AllocError, Global};
-use trace_entries::{Entry, Fault};
+use trace_entries::Fault;
 
 impl World {
     /// A rule that writes a property of a living object, which ends its binding; what follows from it changes with it, and
@@ -119,8 +119,13 @@ impl World {
         ensures agree { Agree meta.now self.new.store.tree self.new.store.bindings }
     {
         let planned = self.plan_group(meta, sets)?;
-        let lines = self.group_lines(meta, depth, sets, &planned)?;
-        self.trace.append_all(lines)?;
+        let telling = Telling {
+            meta,
+            tree: &self.store.tree,
+            planned: &planned.planned,
+            depth,
+        };
+        telling.group(&mut self.trace, sets, planned.targets())?;
         self.left -= 1;
         Ok(self.carry_out_group(planned))
     }
@@ -162,30 +167,6 @@ impl World {
             Err(WriteFault::Memory) => Err(Fault::Memory),
             Err(WriteFault::BadType) => unreachable!(),
         }
-    }
-
-    /// What is to be written down of a group that is planned.
-    fn group_lines(
-        &self,
-        meta: &Meta,
-        depth: usize,
-        sets: &[Option<Assignment>],
-        planned: &PlannedGroup,
-    ) -> Result<Vec<Entry>, AllocError>
-        requires can { CanBeTold meta.now self.now.store.tree
-            (places_in (writes_of (Grouped sets.now))) planned.now.planned }
-        requires targets { planned.now.targets ≡ once (places_in (writes_of (Grouped sets.now))) }
-        ensures { IfOk result (λ lines. IsGroupTold meta.now
-            (after planned.now.planned self.now.store.tree) depth sets.now
-            planned.now.planned.changed lines.items) }
-    {
-        let telling = Telling {
-            meta,
-            tree: &self.store.tree,
-            planned: &planned.planned,
-            depth,
-        };
-        telling.group(self.trace.allocator(), sets, planned.targets())
     }
 
     /// Gives a property that no binding reads a value of its type, and ends its own binding, which takes no memory. It

@@ -195,13 +195,22 @@ impl Trace {
         self.entries.as_slice()
     }
 
-    /// Adds an entry; without memory the trace stays as it was.
+    /// Makes room for so many more entries, so that it grows once for them. The entries stay as they were.
+    pub fn reserve(&mut self, more: usize) -> Result<(), AllocError>
+        ensures { self.new ≡ self.old }
+    {
+        self.entries.reserve(more)
+    }
+
+    /// Adds an entry; without memory the trace stays as it was. A push into room that is there writes the entry where it
+    /// stays; `Vec::push`, which may fail, is called with a copy of it.
     #[inline(always)]
     pub fn push(&mut self, entry: Entry) -> Result<(), AllocError>
         ensures ok { OnOk result (self.new ≡ self.old ++ entry ∷ []) }
         ensures err { OnErr result (self.new ≡ self.old) }
     {
-        self.entries.push(entry)?;
+        self.entries.reserve(1)?;
+        self.entries.push_reserved(entry);
         Ok(())
     }
 
@@ -233,28 +242,6 @@ impl Trace {
         Ok(())
     }
 
-    /// Adds the entries of a list in their order; without memory for all of them the trace stays as it was.
-    pub fn append_all(&mut self, entries: Vec<Entry>) -> Result<(), AllocError>
-        ensures ok { OnOk result (self.new ≡ self.old ++ entries.items) }
-        ensures err { OnErr result (self.new ≡ self.old) }
-    {
-        self.entries.reserve(entries.len())?;
-        push_list(&mut self.entries, entries);
-        Ok(())
-    }
-
-    /// Adds the entry of an accepted event, and then those of a list; without memory for all of them the trace stays as it
-    /// was.
-    pub fn accept_all(&mut self, event: u64, entries: Vec<Entry>) -> Result<(), AllocError>
-        ensures ok { OnOk result (self.new ≡ self.old ++ Accepted event ∷ [] ++ entries.items) }
-        ensures err { OnErr result (self.new ≡ self.old) }
-    {
-        self.entries.reserve(entries.len() + 1)?;
-        self.entries.push_reserved(Entry::Accepted(event));
-        push_list(&mut self.entries, entries);
-        Ok(())
-    }
-
     /// How many entries there are.
     pub fn len(&self) -> usize
         ensures { result ≡ length self.now }
@@ -280,17 +267,6 @@ impl Trace {
     {
         let _last = self.entries.pop();
     }
-}
-
-/// Adds the entries of a list in their order to one that has room for them.
-fn push_list(list: &mut Vec<Entry>, entries: Vec<Entry>)
-    requires room { vec_len list.old + length entries.items ≤ vec_capacity list.old }
-    ensures { list.new.items ≡ list.old.items ++ entries.items }
-{
-    let mut rest = entries;
-    let Ok(()) = list.append(&mut rest) else {
-        unreachable!()
-    };
 }
 
 /// Adds entries in their order to a list that has room for them.

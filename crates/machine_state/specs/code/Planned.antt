@@ -18,7 +18,7 @@ use Rattle.prop_bindings.specs.Plans.{after}
 use Rattle.trace_entries.specs.declared.entry.Entry.{Entry}
 use Rattle.machine_state.specs.declared.changes.telling.Cause.{Cause}
 use Rattle.machine_state.specs.declared.changes.telling.Cause.TheVariants.{Follow}
-use Rattle.machine_state.specs.Telling.{AreTold, HasValue, IsTold, IsToldWith, IsSetTold, others}
+use Rattle.machine_state.specs.Telling.{AreTold, HasValue, IsGroupTold, IsTold, IsToldWith, IsSetTold, others}
 
 -- these properties have values
 abbrev pub HaveValues : Loaded → List Object → List Place → Type 0
@@ -70,6 +70,11 @@ pub record WillWriteAll (p : Loaded) (objects : List Object) (bs : List Binding)
   pub left : without_all plan.targets bs ≡ without_all (places_in writes) bs
   pub will : WillWrite p objects bs writes plan.planned
 
+-- entries were added behind those that stood there
+pub record Extends (old new : List Entry) : Type 0 where
+  pub more : List Entry
+  pub are : new ≡ old ++ more
+
 -- the lines of a group's sets were added
 pub record AddsSets (p : Loaded) (objects : List Object) (depth : ℕ) (sets : List (Option Assignment)) (old new : List Entry)
     : Type 0 where
@@ -89,4 +94,11 @@ pub record AddsTold (p : Loaded) (objects : List Object) (depth : ℕ) (cause : 
     (old new : List Entry) : Type 0 where
   pub lines : List Entry
   pub told : AreTold p objects depth cause first changed lines
+  pub are : new ≡ old ++ lines
+
+-- the lines of a group, of its sets, and of each other property that changes, were added
+pub record AddsGroup (p : Loaded) (objects : List Object) (depth : ℕ) (sets : List (Option Assignment)) (changed : List Place)
+    (old new : List Entry) : Type 0 where
+  pub lines : List Entry
+  pub told : IsGroupTold p objects depth sets changed lines
   pub are : new ≡ old ++ lines

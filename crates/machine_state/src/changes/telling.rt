@@ -1,13 +1,14 @@
 //! What a change of properties writes down: those that are written or bound, and each other one that changes with them. The
 //! change is planned then, and nothing is changed yet.
 
-ghost use Rattle.std.specs.Prelude.{◌≡◌, [], ◌∷◌, IfOk, OnOk, OnErr};
+ghost use Rattle.std.specs.Prelude.{◌≡◌, [], ◌∷◌, ◌++◌, IfOk, OnOk, OnErr};
 ghost use Rattle.std.specs.Option.{option_copied};
 ghost use Rattle.prop_bindings.specs.Changes.{DifferInValues, once, places_in};
 ghost use Rattle.prop_bindings.specs.Values.{values_in};
 ghost use Rattle.prop_bindings.specs.Plans.{after};
-ghost use Rattle.machine_state.specs.Telling.{HasValue, IsTold, IsToldWith, IsSetTold, AreTold, IsGroupTold, Grouped, entry_kind_of, others, writes_of};
-ghost use Rattle.machine_state.specs.code.Planned.{CanBeTold, HaveValues, AddsFollowers, AddsSets, AddsTold, StandFirst, WillBeTold, behind};
+ghost use Rattle.trace_entries.specs.declared.entry.Entry.TheVariants.{Accepted};
+ghost use Rattle.machine_state.specs.Telling.{HasValue, IsTold, IsToldWith, Grouped, entry_kind_of, others, writes_of};
+ghost use Rattle.machine_state.specs.code.Planned.{CanBeTold, HaveValues, AddsFollowers, AddsGroup, AddsSets, AddsTold, Extends, StandFirst, WillBeTold, behind};
 
 use crate::changes::showing::show;
 use basic_types::{Name, Value};
@@ -15,7 +16,7 @@ use binding_graph::Place;
 use meta_model::Meta;
 use object_tree::Tree;
 use prop_bindings::{Assignment, Planned};
-use std::alloc::{AllocError, Global};
+use std::alloc::AllocError;
 use trace_entries::{Entry, EntryKind, Shown, Trace};
 
 /// How a property comes to a value.
@@ -43,30 +44,9 @@ pub struct Telling<'w> {
 }
 
 impl<'w> Telling<'w> {
-    /// The lines of the property that is written or bound, whether it reads as it did or not, and of each other one that
-    /// changes, with the values that they will have.
-    #[inline(never)]
-    pub fn change(
-        &self,
-        alloc: Global,
-        cause: Cause,
-        first: &Place,
-    ) -> Result<Vec<Entry>, AllocError>
-        requires can { CanBeTold self.now.meta.now self.now.tree.now (first.now ∷ [])
-            self.now.planned.now }
-        ensures { IfOk result (λ lines. AreTold self.now.meta.now
-            (after self.now.planned.now self.now.tree.now) self.now.depth cause
-            first.now self.now.planned.now.changed lines.items) }
-    {
-        let followers = self.followers(&[*first]);
-        let mut lines = Vec::with_capacity(alloc, followers.len() + 1)?;
-        lines.push(self.line(cause, first, 0)?)?;
-        self.add_followers(followers, 1, &mut lines)?;
-        Ok(lines)
-    }
-
-    /// Adds the lines of a change, as `change` gives them, to the trace; without memory the trace stays as it was. A property
-    /// with which no other changes needs no list for its one line.
+    /// Adds the lines of a change to the trace: that of the property that is written or bound, whether it reads as it did or
+    /// not, and that of each other one that changes, with the values that they will have. Without memory for all of them the
+    /// trace stays as it was.
     #[inline(always)]
     pub fn note(&self, trace: &mut Trace, cause: Cause, first: &Place) -> Result<(), AllocError>
         requires can { CanBeTold self.now.meta.now self.now.tree.now (first.now ∷ [])
@@ -76,55 +56,117 @@ impl<'w> Telling<'w> {
             first.now self.now.planned.now.changed trace.old trace.new) }
         ensures err { OnErr result (trace.new ≡ trace.old) }
     {
-        if self.followers(&[*first]).is_empty() {
-            let line = self.line(cause, first, 0)?;
-            return trace.push(line);
+        let told = trace.len();
+        if let Err(fault) = self.add_change(trace, cause, first) {
+            trace.keep_first(told);
+            return Err(fault);
         }
-        let lines = self.change(trace.allocator(), cause, first)?;
-        trace.append_all(lines)
+        Ok(())
     }
 
-    /// The lines of a group of sets, which write these properties, each once: its own, those of the sets, whatever the
-    /// properties will have in the end, and those of each other property that changes.
+    /// Adds the line of an accepted event and then those of its change, as `note` does.
+    #[inline(always)]
+    pub fn accept(
+        &self,
+        trace: &mut Trace,
+        event: u64,
+        cause: Cause,
+        first: &Place,
+    ) -> Result<(), AllocError>
+        requires can { CanBeTold self.now.meta.now self.now.tree.now (first.now ∷ [])
+            self.now.planned.now }
+        ensures ok { OnOk result (AddsTold self.now.meta.now
+            (after self.now.planned.now self.now.tree.now) self.now.depth cause
+            first.now self.now.planned.now.changed (trace.old ++ Accepted event ∷ []) trace.new) }
+        ensures err { OnErr result (trace.new ≡ trace.old) }
+    {
+        let told = trace.len();
+        trace.accept(event, [])?;
+        if let Err(fault) = self.add_change(trace, cause, first) {
+            trace.keep_first(told);
+            return Err(fault);
+        }
+        Ok(())
+    }
+
+    /// Adds the lines of a group of sets, which write these properties, each once: its own, those of the sets, whatever the
+    /// properties will have in the end, and those of each other property that changes. Without memory for all of them the
+    /// trace stays as it was.
     pub fn group(
         &self,
-        alloc: Global,
+        trace: &mut Trace,
         sets: &[Option<Assignment>],
         written: &[Place],
-    ) -> Result<Vec<Entry>, AllocError>
-        requires can { CanBeTold self.now.meta.now self.now.tree.now
-            (places_in (writes_of (Grouped sets.now))) self.now.planned.now }
-        requires written { written.now ≡ once (places_in (writes_of (Grouped sets.now))) }
-        ensures { IfOk result (λ lines. IsGroupTold self.now.meta.now
-            (after self.now.planned.now self.now.tree.now) self.now.depth sets.now
-            self.now.planned.now.changed lines.items) }
-    {
-        let mut lines = Vec::with_capacity(alloc, sets.len().saturating_add(1))?;
-        lines.push(Entry::At(self.depth, EntryKind::Grouped))?;
-        self.add_sets(sets, &mut lines)?;
-        let followers = self.followers(written);
-        self.add_followers(followers, written.len(), &mut lines)?;
-        Ok(lines)
-    }
-
-    /// Adds the lines of the sets of a group.
-    fn add_sets(
-        &self,
-        sets: &[Option<Assignment>],
-        lines: &mut Vec<Entry>,
     ) -> Result<(), AllocError>
         requires can { CanBeTold self.now.meta.now self.now.tree.now
             (places_in (writes_of (Grouped sets.now))) self.now.planned.now }
-        ensures { OnOk result (AddsSets self.now.meta.now
+        requires written { written.now ≡ once (places_in (writes_of (Grouped sets.now))) }
+        ensures ok { OnOk result (AddsGroup self.now.meta.now
             (after self.now.planned.now self.now.tree.now) self.now.depth sets.now
-            lines.old.items lines.new.items) }
+            self.now.planned.now.changed trace.old trace.new) }
+        ensures err { OnErr result (trace.new ≡ trace.old) }
+    {
+        let told = trace.len();
+        if let Err(fault) = self.add_group(trace, sets, written) {
+            trace.keep_first(told);
+            return Err(fault);
+        }
+        Ok(())
+    }
+
+    /// Adds the lines of a change, as `note` does; without memory some of them may stand there.
+    fn add_change(&self, trace: &mut Trace, cause: Cause, first: &Place) -> Result<(), AllocError>
+        requires can { CanBeTold self.now.meta.now self.now.tree.now (first.now ∷ [])
+            self.now.planned.now }
+        ensures ok { OnOk result (AddsTold self.now.meta.now
+            (after self.now.planned.now self.now.tree.now) self.now.depth cause
+            first.now self.now.planned.now.changed trace.old trace.new) }
+        ensures err { OnErr result (Extends trace.old trace.new) }
+    {
+        let line = self.line(cause, first, 0)?;
+        trace.push(line)?;
+        let followers = self.followers(&[*first]);
+        self.add_followers(trace, followers, 1)
+    }
+
+    /// Adds the lines of a group, as `group` does; without memory some of them may stand there.
+    fn add_group(
+        &self,
+        trace: &mut Trace,
+        sets: &[Option<Assignment>],
+        written: &[Place],
+    ) -> Result<(), AllocError>
+        requires can { CanBeTold self.now.meta.now self.now.tree.now
+            (places_in (writes_of (Grouped sets.now))) self.now.planned.now }
+        requires written { written.now ≡ once (places_in (writes_of (Grouped sets.now))) }
+        ensures ok { OnOk result (AddsGroup self.now.meta.now
+            (after self.now.planned.now self.now.tree.now) self.now.depth sets.now
+            self.now.planned.now.changed trace.old trace.new) }
+        ensures err { OnErr result (Extends trace.old trace.new) }
+    {
+        let followers = self.followers(written);
+        let lines = sets.len().saturating_add(followers.len());
+        trace.reserve(lines.saturating_add(1))?;
+        trace.push(Entry::At(self.depth, EntryKind::Grouped))?;
+        self.add_sets(trace, sets)?;
+        self.add_followers(trace, followers, written.len())
+    }
+
+    /// Adds the lines of the sets of a group; without memory some of them may stand there.
+    fn add_sets(&self, trace: &mut Trace, sets: &[Option<Assignment>]) -> Result<(), AllocError>
+        requires can { CanBeTold self.now.meta.now self.now.tree.now
+            (places_in (writes_of (Grouped sets.now))) self.now.planned.now }
+        ensures ok { OnOk result (AddsSets self.now.meta.now
+            (after self.now.planned.now self.now.tree.now) self.now.depth sets.now
+            trace.old trace.new) }
+        ensures err { OnErr result (Extends trace.old trace.new) }
     {
         for set in sets {
             let line = match set {
                 Some(set) => self.line_with(Cause::Write, &set.place, &set.value)?,
                 None => Entry::At(self.depth, EntryKind::OnNull),
             };
-            lines.push(line)?;
+            trace.push(line)?;
         }
         Ok(())
     }
@@ -143,25 +185,27 @@ impl<'w> Telling<'w> {
         rest
     }
 
-    /// Adds the lines of properties that change with those that are written or bound, of which there are so many.
+    /// Adds the lines of properties that change with those that are written or bound, of which there are so many; without
+    /// memory some of them may stand there.
     fn add_followers(
         &self,
+        trace: &mut Trace,
         followers: &[Place],
         written: usize,
-        lines: &mut Vec<Entry>,
     ) -> Result<(), AllocError>
         requires have { HaveValues self.now.meta.now self.now.tree.now followers.now }
         requires will_have { HaveValues self.now.meta.now
             (after self.now.planned.now self.now.tree.now) followers.now }
         requires differ { DifferInValues self.now.tree.now
             (after self.now.planned.now self.now.tree.now) }
-        ensures { OnOk result (AddsFollowers self.now.meta.now
+        ensures ok { OnOk result (AddsFollowers self.now.meta.now
             (after self.now.planned.now self.now.tree.now) self.now.depth followers.now
-            lines.old.items lines.new.items) }
+            trace.old trace.new) }
+        ensures err { OnErr result (Extends trace.old trace.new) }
     {
         let mut likely = written;
         for place in followers {
-            lines.push(self.line(Cause::Follow, place, likely)?)?;
+            trace.push(self.line(Cause::Follow, place, likely)?)?;
             likely = likely.saturating_add(1);
         }
         Ok(())

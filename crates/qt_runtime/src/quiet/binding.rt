@@ -1,13 +1,11 @@
-//! Writes and binds of accepted events, and what changes with them. A change is planned, the lines that tell of it are made,
-//! and the trace takes them, before anything else changes: where memory is refused for one of these, the world is as it was.
+//! Writes and binds of accepted events, and what changes with them. A change is planned, and the lines that tell of it are added
+//! to the trace, before anything else changes: where memory is refused for one of these, the world is as it was.
 
-ghost use Rattle.std.specs.Prelude.{◌∷◌, [], ◌<◌, ◌^◌, IfOk};
+ghost use Rattle.std.specs.Prelude.{◌<◌, ◌^◌};
 ghost use Rattle.binding_graph.specs.Bindings.{binding_at};
 ghost use Rattle.binding_graph.specs.code.Graph.{Unread};
 ghost use Rattle.prop_bindings.specs.Fits.{Agree, FitsAt};
-ghost use Rattle.prop_bindings.specs.Plans.{after};
-ghost use Rattle.machine_state.specs.Telling.{Alone, AreTold};
-ghost use Rattle.machine_state.specs.code.Planned.{CanBeTold};
+ghost use Rattle.machine_state.specs.Telling.{Alone};
 ghost use Rattle.machine_state.specs.code.Changing.{accepting_entries, WritesIn, BindsIn};
 
 use crate::quiet::accepting::count_event;
@@ -15,9 +13,8 @@ use basic_types::{ObjectId, Value};
 use delete_later::Store;
 use machine_state::{Cause, Telling, World, line_of};
 use meta_model::Meta;
-use prop_bindings::{BindFault, ChangedPlaces, Place, Planned};
-use std::alloc::AllocError;
-use trace_entries::{Entry, Fault};
+use prop_bindings::{BindFault, ChangedPlaces, Place};
+use trace_entries::Fault;
 
 /// Writes a property of a living object for an accepted event, as `write` does, over the empty stack.
 pub fn accept_write(
@@ -79,8 +76,13 @@ fn accept_followed(
     ensures agree { Agree meta.now world.new.store.tree world.new.store.bindings }
 {
     let planned = world.plan_write(meta, place, value)?;
-    let lines = lines(world, meta, 1, Cause::Write, place, &planned.planned)?;
-    world.trace.accept_all(world.events + 1, lines)?;
+    let telling = Telling {
+        meta,
+        tree: &world.store.tree,
+        planned: &planned.planned,
+        depth: 1,
+    };
+    telling.accept(&mut world.trace, world.events + 1, Cause::Write, place)?;
     count_event(world);
     Ok(world.carry_out(planned))
 }
@@ -108,16 +110,14 @@ pub fn accept_bind(
     let planned = store
         .bindings
         .plan_bind(meta, &store.tree, site, target, sources)?;
-    let lines = lines(
-        world,
+    let telling = Telling {
         meta,
-        1,
-        Cause::Bind,
-        &planned.target(),
-        planned.planned(),
-    )?;
+        tree: &store.tree,
+        planned: planned.planned(),
+        depth: 1,
+    };
     let (told, event) = (world.trace.len(), world.events + 1);
-    world.trace.accept_all(event, lines)?;
+    telling.accept(&mut world.trace, event, Cause::Bind, &planned.target())?;
     let Store { tree, bindings, .. } = &mut world.store;
     match bindings.carry_out_bind(tree, planned) {
         Ok(changed) => {
@@ -129,26 +129,4 @@ pub fn accept_bind(
             Err(BindFault::Memory)
         }
     }
-}
-
-/// What is to be written down of a change that is planned, of this property first.
-fn lines(
-    world: &World,
-    meta: &Meta,
-    depth: usize,
-    cause: Cause,
-    first: &Place,
-    planned: &Planned,
-) -> Result<Vec<Entry>, AllocError>
-    requires can { CanBeTold meta.now world.now.store.tree (first.now ∷ []) planned.now }
-    ensures { IfOk result (λ lines. AreTold meta.now (after planned.now world.now.store.tree)
-        depth cause first.now planned.now.changed lines.items) }
-{
-    let telling = Telling {
-        meta,
-        tree: &world.store.tree,
-        planned,
-        depth,
-    };
-    telling.change(world.trace.allocator(), cause, first)
 }

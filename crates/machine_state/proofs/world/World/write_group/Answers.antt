@@ -6,8 +6,8 @@ use Rattle.machine_state.proofs.Bound.{has-written, written-agrees, noted-over}
 use Rattle.machine_state.proofs.Changed.{written-ahead}
 use Rattle.machine_state.proofs.world.World.write_group.Goals as goal
 
-pub group_lines-requires-clause-can : goal.group_lines-requires-clause-can
-group_lines-requires-clause-can c =
+pub group-requires-clause-can : goal.group-requires-clause-can
+group-requires-clause-can c =
     let store = c.args.self.now.store in
     written-ahead c.args.meta.now store.tree store.bindings (writes_of (Grouped c.args.sets.now)) c.in_ok-planned.planned.planned c.requires.agree c.requires.fit c.in_ok-planned.ensures.ok.will
 
@@ -15,14 +15,14 @@ pub returns-clause-value : goal.returns-clause-value
 returns-clause-value c =
     let w = c.args.self.now in
     let plan = c.in_ok-planned.planned in
-    let lines = c.in_ok-lines.lines.items in
-    has-written c.args.meta.now (Grouped c.args.sets.now) w c.carry_out_group.new.self plan.planned (without_all plan.targets w.store.bindings) c.in_ok-planned.ensures.ok.left c.in_ok-planned.ensures.ok.will lines c.args.depth (noted w) c.carry_out_group.result c.in_ok-lines.ensures c.carry_out_group.ensures.changed
-    (noted-over w c.carry_out_group.new.self (after plan.planned w.store.tree) (without_all plan.targets w.store.bindings) lines c.append_all.new.self c.in_ok-append_all.ensures.ok c.carry_out_group.ensures.world)
+    let lines = c.in_ok-group.ensures.ok.lines in
+    has-written c.args.meta.now (Grouped c.args.sets.now) w c.carry_out_group.new.self plan.planned (without_all plan.targets w.store.bindings) c.in_ok-planned.ensures.ok.left c.in_ok-planned.ensures.ok.will lines c.args.depth (noted w) c.carry_out_group.result c.in_ok-group.ensures.ok.told c.carry_out_group.ensures.changed
+    (noted-over w c.carry_out_group.new.self (after plan.planned w.store.tree) (without_all plan.targets w.store.bindings) lines c.group.new.trace c.in_ok-group.ensures.ok.are c.carry_out_group.ensures.world)
 
 pub returns-clause-agree : goal.returns-clause-agree
 returns-clause-agree c =
     let w = c.args.self.now in
     let plan = c.in_ok-planned.planned in
-    let lines = c.in_ok-lines.lines.items in
+    let lines = c.in_ok-group.ensures.ok.lines in
     written-agrees c.args.meta.now (Grouped c.args.sets.now) w c.carry_out_group.new.self plan.planned (without_all plan.targets w.store.bindings) c.in_ok-planned.ensures.ok.left c.in_ok-planned.ensures.ok.will lines (noted w lines)
-    (noted-over w c.carry_out_group.new.self (after plan.planned w.store.tree) (without_all plan.targets w.store.bindings) lines c.append_all.new.self c.in_ok-append_all.ensures.ok c.carry_out_group.ensures.world)
+    (noted-over w c.carry_out_group.new.self (after plan.planned w.store.tree) (without_all plan.targets w.store.bindings) lines c.group.new.trace c.in_ok-group.ensures.ok.are c.carry_out_group.ensures.world)

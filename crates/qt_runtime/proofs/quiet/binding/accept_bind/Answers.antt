@@ -1,4 +1,4 @@
-use Rattle.std.proofs.Common.{[], ◌∷◌, List, refl, ap, sym, subst}
+use Rattle.std.proofs.Common.{[], ◌∷◌, List, ap, sym, subst}
 use Rattle.binding_graph.specs.declared.place.Place.{Place}
 use Rattle.prop_bindings.specs.declared.plans.planned.Planned.{Planned}
 use Rattle.prop_bindings.specs.Plans.{after}
@@ -12,8 +12,8 @@ use Rattle.qt_runtime.proofs.Bound.{has-bound, binds-short, lines-lost}
 use Rattle.machine_state.proofs.Changed.{bound-ahead}
 use Rattle.qt_runtime.proofs.quiet.binding.accept_bind.Goals as goal
 
-pub lines-requires : goal.lines-requires
-lines-requires c =
+pub accept-requires : goal.accept-requires
+accept-requires c =
     let store = c.args.world.now.store in
     let can = bound-ahead c.args.meta.now c.args.site c.args.target c.args.sources.now store.tree store.bindings c.in_ok-planned.planned c.requires.agree c.in_ok-planned.ensures.value c.in_ok-planned.ensures.agree in
     let At : Place → Planned → Type 0 = λ first plan. CanBeTold c.args.meta.now store.tree (first ∷ []) plan in
@@ -22,26 +22,21 @@ lines-requires c =
 pub returns-in-Ok-clause-value : goal.returns-in-Ok-clause-value
 returns-in-Ok-clause-value c =
     let w = c.args.world.now in
-    let lines = c.in_ok-lines.lines.items in
+    let lines = c.in_ok-accept.ensures.ok.lines in
     let Told : Place → Planned → Type 0 = λ first plan. AreTold c.args.meta.now (after plan w.store.tree) 1 Bind first plan.changed lines in
-    has-bound c.args.meta.now c.args.site c.args.target c.args.sources.now w c.count_event.new.world c.in_ok-planned.planned c.in_ok-planned.ensures.value lines c.accept_all.new.self c.in-Ok.changed c.carry_out_bind.new.tree c.carry_out_bind.new.self
-    (subst (Told c.in_ok-planned.planned.reader.target) c.planned.ensures (subst (λ (first : Place). Told first c.planned.result.now) c.target.ensures c.in_ok-lines.ensures))
-    c.in-Ok.ensures.value c.in_ok-accept_all.ensures.ok c.in-Ok.ensures.objects c.in-Ok.ensures.installed c.count_event.ensures
+    has-bound c.args.meta.now c.args.site c.args.target c.args.sources.now w c.count_event.new.world c.in_ok-planned.planned c.in_ok-planned.ensures.value lines c.accept.new.trace c.in-Ok.changed c.carry_out_bind.new.tree c.carry_out_bind.new.self
+    (subst (Told c.in_ok-planned.planned.reader.target) c.planned.ensures (subst (λ (first : Place). Told first c.planned.result.now) c.target.ensures c.in_ok-accept.ensures.ok.told))
+    c.in-Ok.ensures.value c.in_ok-accept.ensures.ok.are c.in-Ok.ensures.objects c.in-Ok.ensures.installed c.count_event.ensures
 
-pub returns-in_err-lines-clause-value : goal.returns-in_err-lines-clause-value
-returns-in_err-lines-clause-value c =
-    let w = c.args.world.now in
-    binds-short c.args.meta.now c.args.site c.args.target c.args.sources.now w w (accepting_entries w) refl c.from_residual-in_err-lines.result c.from_residual-in_err-lines.ensures.1
-
-pub returns-in_err-accept_all-clause-value : goal.returns-in_err-accept_all-clause-value
-returns-in_err-accept_all-clause-value c =
+pub returns-in_err-accept-clause-value : goal.returns-in_err-accept-clause-value
+returns-in_err-accept-clause-value c =
     let w = c.args.world.now in
     binds-short c.args.meta.now c.args.site c.args.target c.args.sources.now w _ (accepting_entries w)
-    (ap (λ (s : List Entry). record w { trace = s }) c.in_err-accept_all.ensures.err)
-    c.from_residual-in_err-accept_all.result c.from_residual-in_err-accept_all.ensures.1
+    (ap (λ (s : List Entry). record w { trace = s }) c.in_err-accept.ensures.err)
+    c.from_residual-in_err-accept.result c.from_residual-in_err-accept.ensures.1
 
 pub returns-in-Err-clause-value : goal.returns-in-Err-clause-value
 returns-in-Err-clause-value c = (
   IsNotBound.no_memory,
-  lines-lost c.args.world.now _ c.in_ok-lines.lines.items c.accept_all.new.self c.keep_first.new.self c.len-told.result c.carry_out_bind.new.tree c.carry_out_bind.new.self c.len-told.ensures c.in_ok-accept_all.ensures.ok c.keep_first.ensures c.in-Err.ensures.err.0 c.in-Err.ensures.err.1,
+  lines-lost c.args.world.now _ c.in_ok-accept.ensures.ok.lines c.accept.new.trace c.keep_first.new.self c.len-told.result c.carry_out_bind.new.tree c.carry_out_bind.new.self c.len-told.ensures c.in_ok-accept.ensures.ok.are c.keep_first.ensures c.in-Err.ensures.err.0 c.in-Err.ensures.err.1,
 )

@@ -11,8 +11,8 @@ use Rattle.machine_state.proofs.Changed.{written-ahead}
 use Rattle.machine_state.proofs.Trying.{writes-not}
 use Rattle.qt_runtime.proofs.quiet.binding.accept_followed.Goals as goal
 
-pub lines-requires : goal.lines-requires
-lines-requires c =
+pub accept-requires : goal.accept-requires
+accept-requires c =
     let store = c.args.world.now.store in
     record { can = written-ahead c.args.meta.now store.tree store.bindings (one c.args.place.now c.args.value) c.in_ok-planned.planned.planned c.requires.agree (c.requires.fits, tt) c.in_ok-planned.ensures.ok.will }
 
@@ -26,17 +26,17 @@ returns-clause-value c =
     let w = c.args.world.now in
     let plan = c.in_ok-planned.planned.planned in
     let target = c.in_ok-planned.planned.target in
-    let lines = c.in_ok-lines.lines.items in
+    let lines = c.in_ok-accept.ensures.ok.lines in
     let cs_are : without target w.store.bindings ≡ without c.args.place.now w.store.bindings = ap (λ (q : Place). without q w.store.bindings) c.in_ok-planned.ensures.ok.target in
-    has-written c.args.meta.now (Alone c.args.place.now c.args.value) w c.carry_out.new.self plan (without target w.store.bindings) cs_are c.in_ok-planned.ensures.ok.will lines 1 (accepting_entries w) c.carry_out.result c.in_ok-lines.ensures c.carry_out.ensures.changed
-    (counted-over w c.count_event.new.world c.carry_out.new.self (after plan) target lines c.accept_all.new.self c.in_ok-accept_all.ensures.ok c.count_event.ensures c.carry_out.ensures.world)
+    has-written c.args.meta.now (Alone c.args.place.now c.args.value) w c.carry_out.new.self plan (without target w.store.bindings) cs_are c.in_ok-planned.ensures.ok.will lines 1 (accepting_entries w) c.carry_out.result c.in_ok-accept.ensures.ok.told c.carry_out.ensures.changed
+    (counted-over w c.count_event.new.world c.carry_out.new.self (after plan) target lines c.accept.new.trace c.in_ok-accept.ensures.ok.are c.count_event.ensures c.carry_out.ensures.world)
 
 pub returns-clause-agree : goal.returns-clause-agree
 returns-clause-agree c =
     let w = c.args.world.now in
     let plan = c.in_ok-planned.planned.planned in
     let target = c.in_ok-planned.planned.target in
-    let lines = c.in_ok-lines.lines.items in
+    let lines = c.in_ok-accept.ensures.ok.lines in
     let cs_are : without target w.store.bindings ≡ without c.args.place.now w.store.bindings = ap (λ (q : Place). without q w.store.bindings) c.in_ok-planned.ensures.ok.target in
     written-agrees c.args.meta.now (Alone c.args.place.now c.args.value) w c.carry_out.new.self plan (without target w.store.bindings) cs_are c.in_ok-planned.ensures.ok.will lines (accepting_entries w lines)
-    (counted-over w c.count_event.new.world c.carry_out.new.self (after plan) target lines c.accept_all.new.self c.in_ok-accept_all.ensures.ok c.count_event.ensures c.carry_out.ensures.world)
+    (counted-over w c.count_event.new.world c.carry_out.new.self (after plan) target lines c.accept.new.trace c.in_ok-accept.ensures.ok.are c.count_event.ensures c.carry_out.ensures.world)

@@ -43,5 +43,5 @@ loop-set-preserved c =
           (subst (λ (z : Entry). IsToldWith self.meta.now new self.depth Write w.in-Some.set.place w.in-Some.set.value z) (sym w.line-is) w.in_ok-line-in-Some.ensures)
       | in-None w ↦ subst (λ (z : Option Assignment). IsSetTold self.meta.now new self.depth z line) (sym w.in-None.is) w.line-is
     ] in
-    subst (λ (zs : List (Option Assignment)). AddsSets self.meta.now new self.depth zs c.args.lines.now.items c.push.new.self.items) (sym more)
-    (one-set self.meta.now new self.depth passed set c.args.lines.now.items c.loop-set.lines.items c.push.new.self.items line c.loop-set.invariant told c.in_ok-push.ensures.items)
+    subst (λ (zs : List (Option Assignment)). AddsSets self.meta.now new self.depth zs c.args.trace.now c.push.new.self) (sym more)
+    (one-set self.meta.now new self.depth passed set c.args.trace.now c.loop-set.trace c.push.new.self line c.loop-set.invariant told c.in_ok-push.ensures.ok)
