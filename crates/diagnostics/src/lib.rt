@@ -2,6 +2,7 @@
 //! meant; and places of another text, from which a tool wrote a program.
 #![tactic(auto)]
 
+mod cut;
 mod edits;
 mod excerpt;
 mod flaw;
@@ -14,6 +15,7 @@ mod place;
 mod printed;
 mod spans;
 
+pub use cut::{placed_or_none, tokens_or_none};
 pub use edits::{did_you_mean, nearest};
 pub use flaw::Flaw;
 pub use line::{has_tokens, number_behind};

@@ -1,7 +1,7 @@
 //! Texts between quotes that seem to have escapes, which this language doesn't have.
 
-use crate::placed::{PlacedText, tokens_of};
-use diagnostics::{Flaw, Severity, TextKind, text_spans};
+use crate::placed::PlacedText;
+use diagnostics::{Flaw, Severity, TextKind, placed_or_none, text_spans};
 use std::alloc::{AllocError, Global};
 use texts::Token;
 
@@ -27,7 +27,7 @@ pub fn push_escapes(text: &mut String, alloc: Global, input: &[u8]) -> Result<()
 /// Adds a warning on the first one in this text of the input.
 fn push_escape(text: &mut String, alloc: Global, placed: PlacedText<'_>) -> Result<(), AllocError> {
     let source = placed.source();
-    let tokens = tokens_of(alloc, source)?;
+    let tokens = placed_or_none(alloc, source)?;
     for token in tokens.as_slice() {
         if let Token::Text(_) = &token.token
             && let Some(inner) = escape_in(source.get(token.at..token.end).unwrap_or(&[]))

@@ -1,9 +1,7 @@
 //! A text of an input, of whose places something is said.
 
 use diagnostics::{Flaw, Severity, Span, TextKind, push_flaw, text_spans};
-use sqlite_items::Items;
 use std::alloc::{AllocError, Global};
-use texts::{PlaceFault, PlacedToken, placed_tokens};
 
 /// A text of an input.
 #[derive(Clone, Copy)]
@@ -50,15 +48,6 @@ impl<'i> PlacedText<'i> {
         flaw: &Flaw,
     ) -> Result<(), AllocError> {
         push_flaw(text, severity, self.input, self.span, self.kind, flaw)
-    }
-}
-
-/// The tokens of a text, or of a line of one; none where a byte begins no token.
-pub fn tokens_of(alloc: Global, text: &[u8]) -> Result<Items<PlacedToken>, AllocError> {
-    match placed_tokens(alloc, text) {
-        Ok(tokens) => Ok(tokens),
-        Err(PlaceFault::BadByte(_)) => Ok(Items::new(alloc)),
-        Err(PlaceFault::Memory) => Err(AllocError),
     }
 }
 

@@ -23,6 +23,7 @@ pub use compared::cause_text;
 pub use declarations::{FurtherFlaw, declaration_flaw, further_declaration_flaws, native_flaw};
 pub use edge::push_edge;
 pub use ill_typed::flaw_text;
+pub use named_classes::{class_names, lineage};
 pub use names::{class_text, node_text, property_text, sig_text, text_of};
 pub use obstacles::{Obstacle, obstacle_along, obstacle_between, obstacle_text, unsettled_text};
 pub use places::{Part, ProgramPlaces};

@@ -9,12 +9,10 @@ use crate::places::modal::modal_lines;
 use basic_types::Name;
 use class_lang::program_trail;
 use class_outlines::{Declaration, Member};
-use diagnostics::TextPlace;
+use diagnostics::{TextPlace, placed_or_none, tokens_or_none};
 use sqlite_items::Items;
 use std::alloc::{AllocError, Global};
-use texts::{
-    LexFault, PlaceFault, PlacedToken, Symbol, Token, Word, placed_tokens, tokens as tokens_of,
-};
+use texts::{PlacedToken, Symbol, Token, Word};
 use token_reading::{Begun, Landmark, Trail};
 
 /// Where a part stands: from its first token to its last one, by their numbers. A statement that has a block ends here with the
@@ -241,22 +239,9 @@ impl ClassParts {
     }
 }
 
-/// The tokens of the text, or of a line; none where it has a byte with which none begins.
-pub fn placed_or_none(alloc: Global, text: &[u8]) -> Result<Items<PlacedToken>, AllocError> {
-    match placed_tokens(alloc, text) {
-        Ok(placed) => Ok(placed),
-        Err(PlaceFault::BadByte(_)) => Ok(Items::new(alloc)),
-        Err(PlaceFault::Memory) => Err(AllocError),
-    }
-}
-
 /// The way of the reader through the text of a program, to whose end it comes unless a growth of memory was refused.
 fn trail_of(alloc: Global, text: &[u8]) -> Result<Trail, AllocError> {
-    let found = match tokens_of(alloc, text) {
-        Ok(found) => found,
-        Err(LexFault::BadByte) => Items::new(alloc),
-        Err(LexFault::Memory) => return Err(AllocError),
-    };
+    let found = tokens_or_none(alloc, text)?;
     match program_trail(alloc, found.as_slice()) {
         Some(trail) if trail.is_whole() && trail.farthest().saturating_add(1) >= found.len() => {
             Ok(trail)

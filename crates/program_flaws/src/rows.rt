@@ -1,7 +1,6 @@
 //! Where the rows of a certificate's text begin: its lines that have tokens.
 
-use crate::places::placed_or_none;
-use diagnostics::TextPlace;
+use diagnostics::{TextPlace, placed_or_none};
 use rank_check::{Cause, Extra, Loose, Mistake};
 use std::alloc::{AllocError, Global};
 

@@ -2,11 +2,11 @@
 
 ghost use Rattle.std.specs.Prelude.{◌≤◌, length, IfOk, IfSome};
 
-use crate::lines::{line_flaw, placed_line};
-use crate::parts::{plain_tokens, whole, within};
+use crate::lines::line_flaw;
+use crate::parts::{placed_or_flaw, whole, within};
 use crate::unexpected::TokenizedText;
 use certificate_lang::{Row, Version, read_node, read_set_items, read_setting, row_trail};
-use diagnostics::Flaw;
+use diagnostics::{Flaw, tokens_or_none};
 use std::alloc::{AllocError, Global};
 use texts::{Token, number, split_line};
 use token_reading::{Cursor, GREATEST, ParseFault, Trail};
@@ -105,7 +105,7 @@ fn row_behind(
     row: Row,
     version: Version,
 ) -> Result<Result<(Row, Version), Flaw>, AllocError> {
-    let placed = match placed_line(alloc, line)? {
+    let placed = match placed_or_flaw(alloc, line)? {
         Ok(placed) => placed,
         Err(flaw) => return Ok(Err(flaw)),
     };
@@ -159,7 +159,7 @@ fn trail_of_row(
     line: &[u8],
     row: Row,
 ) -> Result<Trail, AllocError> {
-    let tokens = plain_tokens(alloc, line)?;
+    let tokens = tokens_or_none(alloc, line)?;
     whole(match form {
         CertificateForm::Plain => row_trail(alloc, tokens.as_slice(), row),
         CertificateForm::Settling => settling_trail(alloc, tokens.as_slice(), row),

@@ -2,10 +2,10 @@
 
 use crate::bytes::bad_byte;
 use crate::lines::script_flaw;
-use crate::parts::{plain_tokens, whole};
+use crate::parts::whole;
 use crate::unexpected::{TokenizedText, Unexpected};
 use class_lang::{Limits, TextFault, program_trail, read_within};
-use diagnostics::Flaw;
+use diagnostics::{Flaw, placed_or_none, tokens_or_none};
 use script_lang::{ScriptFault, read_script};
 use std::alloc::{AllocError, Global};
 use texts::{PlaceFault, PlacedToken, Symbol, Token, Word, placed_tokens, split_line};
@@ -104,12 +104,8 @@ fn behind_line(left: &[u8]) -> Option<usize> {
 
 /// The tokens that can't stand where they do in declarations behind the first one that has one.
 fn further_unexpected(alloc: Global, text: &[u8], most: usize) -> Result<Vec<Flaw>, AllocError> {
-    let placed = match placed_tokens(alloc, text) {
-        Ok(placed) => placed,
-        Err(PlaceFault::BadByte(_)) => return Ok(Vec::new(alloc)),
-        Err(PlaceFault::Memory) => return Err(AllocError),
-    };
-    let tokens = plain_tokens(alloc, text)?;
+    let placed = placed_or_none(alloc, text)?;
+    let tokens = tokens_or_none(alloc, text)?;
     let mut flaws = Vec::new(alloc);
     let mut begin = 0usize;
     for count in 0..=most {

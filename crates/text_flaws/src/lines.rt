@@ -3,15 +3,13 @@
 ghost use Rattle.std.specs.Prelude.{◌≤◌, length, IfOk, IfSome};
 ghost use Rattle.text_flaws.specs.LinePlaces.{IsInLine};
 
-use crate::bytes::bad_byte;
 use crate::limits::{parameters_flaw, reference_flaw};
-use crate::parts::{plain_tokens, whole, within};
+use crate::parts::{placed_or_flaw, whole, within};
 use crate::unexpected::{TokenizedText, Unexpected, is_among};
-use diagnostics::Flaw;
+use diagnostics::{Flaw, tokens_or_none};
 use script_lang::event_trail;
-use sqlite_items::Items;
 use std::alloc::{AllocError, Global};
-use texts::{PlaceFault, PlacedToken, placed_tokens, split_line};
+use texts::split_line;
 use token_reading::{Trail, Wanted};
 
 /// What is wrong with this line of a script, counted from 1: its place is in that line.
@@ -35,7 +33,7 @@ pub fn script_flaw(alloc: Global, text: &[u8], line: usize) -> Result<Option<Fla
 
 /// What is wrong with a line that is to be an event.
 fn event_flaw(alloc: Global, line: &[u8]) -> Result<Option<Flaw>, AllocError> {
-    let placed = match placed_line(alloc, line)? {
+    let placed = match placed_or_flaw(alloc, line)? {
         Ok(placed) => placed,
         Err(flaw) => return Ok(Some(flaw)),
     };
@@ -49,7 +47,7 @@ fn event_flaw(alloc: Global, line: &[u8]) -> Result<Option<Flaw>, AllocError> {
 
 /// The way of the reader of events through the line.
 fn trail_of_event(alloc: Global, line: &[u8]) -> Result<Trail, AllocError> {
-    let tokens = plain_tokens(alloc, line)?;
+    let tokens = tokens_or_none(alloc, line)?;
     whole(event_trail(alloc, tokens.as_slice()))
 }
 
@@ -66,17 +64,5 @@ pub fn line_flaw<'t>(
     match reference_flaw(alloc, source)? {
         Some(flaw) => Ok(Some(flaw)),
         None => parameters_flaw(alloc, source, is_certificate),
-    }
-}
-
-/// The tokens of a line, or what is wrong with its bytes.
-pub fn placed_line(
-    alloc: Global,
-    line: &[u8],
-) -> Result<Result<Items<PlacedToken>, Flaw>, AllocError> {
-    match placed_tokens(alloc, line) {
-        Ok(placed) => Ok(Ok(placed)),
-        Err(PlaceFault::BadByte(at)) => Ok(Err(bad_byte(alloc, line, at)?)),
-        Err(PlaceFault::Memory) => Err(AllocError),
     }
 }

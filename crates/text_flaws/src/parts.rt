@@ -2,18 +2,22 @@
 
 ghost use Rattle.std.specs.Prelude.{◌≤◌, IfSome};
 
+use crate::bytes::bad_byte;
 use diagnostics::Flaw;
 use sqlite_items::Items;
 use std::alloc::{AllocError, Global};
-use texts::{LexFault, Token, tokens};
+use texts::{PlaceFault, PlacedToken, placed_tokens};
 use token_reading::Trail;
 
-/// The tokens of a text that is cut into them.
-pub fn plain_tokens(alloc: Global, text: &[u8]) -> Result<Items<Token>, AllocError> {
-    match tokens(alloc, text) {
-        Ok(tokens) => Ok(tokens),
-        Err(LexFault::BadByte) => Ok(Items::new(alloc)),
-        Err(LexFault::Memory) => Err(AllocError),
+/// The tokens of a text, or of a line of one, with their places; or what is wrong with its bytes.
+pub fn placed_or_flaw(
+    alloc: Global,
+    text: &[u8],
+) -> Result<Result<Items<PlacedToken>, Flaw>, AllocError> {
+    match placed_tokens(alloc, text) {
+        Ok(placed) => Ok(Ok(placed)),
+        Err(PlaceFault::BadByte(at)) => Ok(Err(bad_byte(alloc, text, at)?)),
+        Err(PlaceFault::Memory) => Err(AllocError),
     }
 }
 

@@ -2,14 +2,12 @@
 
 ghost use Rattle.std.specs.Prelude.{◌≤◌, length, IfOk, IfSome};
 
-use crate::bytes::bad_byte;
 use crate::limits::{count_flaw, depth_flaw, parameters_flaw, program_size_flaw, reference_flaw};
-use crate::parts::{plain_tokens, whole, within};
+use crate::parts::{placed_or_flaw, whole, within};
 use crate::unexpected::{TokenizedText, Unexpected};
 use class_lang::{Limits, program_trail};
-use diagnostics::Flaw;
+use diagnostics::{Flaw, tokens_or_none};
 use std::alloc::{AllocError, Global};
-use texts::{PlaceFault, placed_tokens};
 use token_reading::Trail;
 
 /// What is wrong with a program that was read by these limits and is refused for the reason of this number, where that has a
@@ -38,13 +36,12 @@ fn flaw_of(
     {
         return Ok(Some(flaw));
     }
-    match placed_tokens(alloc, text) {
+    match placed_or_flaw(alloc, text)? {
         Ok(placed) => {
             let tokens = placed.as_slice();
             flaw_in(alloc, limits, TokenizedText { text, tokens }, number)
         }
-        Err(PlaceFault::BadByte(at)) => Ok(Some(bad_byte(alloc, text, at)?)),
-        Err(PlaceFault::Memory) => Err(AllocError),
+        Err(flaw) => Ok(Some(flaw)),
     }
 }
 
@@ -73,6 +70,6 @@ fn flaw_in(
 
 /// The way of the reader of programs through the text.
 fn trail_of(alloc: Global, text: &[u8]) -> Result<Trail, AllocError> {
-    let tokens = plain_tokens(alloc, text)?;
+    let tokens = tokens_or_none(alloc, text)?;
     whole(program_trail(alloc, tokens.as_slice()))
 }

@@ -1,9 +1,10 @@
 //! Which part of a refused event is wrong, and what may be meant.
 
 use crate::reports::known::{
-    KnownNames, MemberSort, class_names, member_names, push_listed, spelled, taken_types,
+    KnownNames, MemberSort, member_names, push_listed, spelled, taken_types,
 };
 use diagnostics::{Printed, did_you_mean};
+use program_flaws::class_names;
 use std::alloc::{AllocError, Global};
 use syntax_trees::Program;
 use texts::PlacedToken;

@@ -1,7 +1,7 @@
 //! What a run has made by an event, and what its program declares, by names.
 
-use crate::placed::tokens_of;
-use diagnostics::Printed;
+use diagnostics::{Printed, placed_or_none};
+use program_flaws::lineage;
 use std::alloc::{AllocError, Global};
 use syntax_trees::{Class, Parameter, Program};
 use texts::PlacedToken;
@@ -53,7 +53,7 @@ impl<'a> KnownNames<'a> {
         if !verbs.iter().any(|verb: &&[u8]| front.starts_with(*verb)) {
             return Ok(());
         }
-        let tokens = tokens_of(self.alloc, line)?;
+        let tokens = placed_or_none(self.alloc, line)?;
         let tokens = tokens.as_slice();
         let verb = spelled(line, tokens, 0);
         if verb == b"new".as_slice() {
@@ -104,47 +104,6 @@ pub enum MemberSort {
     Slot,
     /// What a connection calls.
     Method,
-}
-
-/// The class of this name.
-fn class_named<'p>(program: &'p Program, name: &[u8]) -> Option<&'p Class> {
-    program
-        .classes
-        .as_slice()
-        .iter()
-        .find(|class| class.name.bytes() == name)
-}
-
-/// The names of the classes.
-pub fn class_names(alloc: Global, program: &Program) -> Result<Vec<&[u8]>, AllocError> {
-    let mut names = Vec::new(alloc);
-    names.push(b"QObject".as_slice())?;
-    for class in program.classes.as_slice() {
-        names.push(class.name.bytes())?;
-    }
-    Ok(names)
-}
-
-/// The class of this name, and those above it.
-fn lineage<'p>(
-    alloc: Global,
-    program: &'p Program,
-    class: &[u8],
-) -> Result<Vec<&'p Class>, AllocError> {
-    let mut found = Vec::new(alloc);
-    let mut next = class_named(program, class);
-    // A base stands before its class, so there are no more.
-    for _ in program.classes.as_slice() {
-        let Some(class) = next else {
-            break;
-        };
-        found.push(class)?;
-        next = match &class.base {
-            Some(base) => class_named(program, base.bytes()),
-            None => None,
-        };
-    }
-    Ok(found)
 }
 
 /// The types that a member of this sort and name takes, which has so many parameters; nothing where objects of the class have none.

@@ -3,10 +3,12 @@
 ghost use Rattle.std.specs.Prelude.{◌↔◌, IsTrue};
 ghost use Rattle.explained_commands.specs.Refused.{HasRefused, IsRefused};
 
-use crate::placed::{PlacedText, some_text, tokens_of};
+use crate::placed::{PlacedText, some_text};
 use crate::reports::blame::{Blame, blame_of, needs_program};
 use crate::reports::known::KnownNames;
-use diagnostics::{Flaw, Printed, Severity, TextKind, has_tokens, meaning, number_behind};
+use diagnostics::{
+    Flaw, Printed, Severity, TextKind, has_tokens, meaning, number_behind, placed_or_none,
+};
 use program_flaws::declarations_of;
 use std::alloc::{AllocError, Global};
 use syntax_trees::Program;
@@ -154,7 +156,7 @@ impl<'a> RefusedScript<'a> {
         {
             let at = script.len().saturating_sub(left.len());
             left = rest;
-            if !has_event(self.alloc, line)? {
+            if !has_tokens(self.alloc, line)? {
                 continue;
             }
             event = event.saturating_add(1);
@@ -197,7 +199,7 @@ impl<'a> RefusedScript<'a> {
             at,
             is_guessed,
         } = reported;
-        let tokens = tokens_of(self.alloc, line)?;
+        let tokens = placed_or_none(self.alloc, line)?;
         let tokens = tokens.as_slice();
         let Blame { token, advice } = if is_guessed {
             let program = self.program.as_ref();
@@ -262,12 +264,4 @@ fn unexpected_in(alloc: Global, input: &[u8], trace: &[Entry]) -> Result<usize, 
     let refused = refused_events(alloc, trace)?;
     let script = RefusedScript::of(alloc, input, refused.as_slice(), 0)?;
     script.push_refusals(&mut String::new(alloc), refused.as_slice(), 0)
-}
-
-/// Whether a line has an event, which begins with a word: so most lines needn't be cut into tokens.
-fn has_event(alloc: Global, line: &[u8]) -> Result<bool, AllocError> {
-    match line.trim_ascii_start().first() {
-        Some(byte) if byte.is_ascii_alphabetic() => Ok(true),
-        _ => has_tokens(alloc, line),
-    }
 }
