@@ -1,19 +1,17 @@
-//! What is wrong with a certificate, or with a settling one.
-
-ghost use Rattle.std.specs.Prelude.{◌≤◌, length, IfOk, IfSome};
+//! What is wrong with a line of a certificate, or of a settling one.
 
 use crate::lines::line_flaw;
-use crate::parts::{placed_or_flaw, whole, within};
+use crate::parts::whole;
 use crate::unexpected::TokenizedText;
 use certificate_lang::{Row, Version, read_node, read_set_items, read_setting, row_trail};
 use diagnostics::{Flaw, tokens_or_none};
 use std::alloc::{AllocError, Global};
-use texts::{Token, number, split_line};
+use texts::{Token, number};
 use token_reading::{Cursor, GREATEST, ParseFault, Trail};
 
 /// Which certificate a text is to be.
 #[derive(Clone, Copy, Debug, PartialEq, Eq)]
-enum CertificateForm {
+pub enum CertificateForm {
     /// One without steps.
     Plain,
     Settling,
@@ -26,6 +24,22 @@ impl CertificateForm {
             CertificateForm::Plain => Version::of(number),
             CertificateForm::Settling if number == 1 => Some(Version::Two),
             CertificateForm::Settling => None,
+        }
+    }
+
+    /// The word with which its first line begins.
+    pub fn word(self) -> &'static [u8] {
+        match self {
+            CertificateForm::Plain => b"certificate",
+            CertificateForm::Settling => b"settling",
+        }
+    }
+
+    /// The word with which the other one begins.
+    pub fn other_word(self) -> &'static [u8] {
+        match self {
+            CertificateForm::Plain => CertificateForm::Settling.word(),
+            CertificateForm::Settling => CertificateForm::Plain.word(),
         }
     }
 
@@ -56,87 +70,8 @@ impl CertificateForm {
     }
 }
 
-/// What is wrong with the first line of a certificate that is none of its lines.
-pub fn certificate_flaw(alloc: Global, text: &[u8]) -> Result<Option<Flaw>, AllocError>
-    ensures { IfOk result (λ flaw. IfSome flaw (λ f. f.at ≤ length text.now)) }
-{
-    first_flaw(alloc, CertificateForm::Plain, text)
-}
-
-/// What is wrong with the first line of a settling certificate that is none of its lines.
-pub fn settling_flaw(alloc: Global, text: &[u8]) -> Result<Option<Flaw>, AllocError>
-    ensures { IfOk result (λ flaw. IfSome flaw (λ f. f.at ≤ length text.now)) }
-{
-    first_flaw(alloc, CertificateForm::Settling, text)
-}
-
-/// What is wrong with the first line that is none of such a certificate.
-fn first_flaw(alloc: Global, form: CertificateForm, text: &[u8]) -> Result<Option<Flaw>, AllocError>
-    ensures { IfOk result (λ flaw. IfSome flaw (λ f. f.at ≤ length text.now)) }
-{
-    let mut left = text;
-    let mut row = Row::Version;
-    let mut version = Version::Two;
-    while let Some((line, rest)) = split_line(left) {
-        match row_behind(alloc, form, line, row, version)? {
-            Ok((next, named)) => {
-                row = next;
-                version = named;
-            }
-            Err(flaw) => {
-                let begin = text.len().saturating_sub(left.len());
-                return Ok(within(begin, text.len(), Some(flaw)));
-            }
-        }
-        left = rest;
-    }
-    let flaw = match row {
-        Row::Node(_) => None,
-        Row::Version | Row::Bound => Some(ends_early(alloc, form, text.len())?),
-    };
-    Ok(within(0, text.len(), flaw))
-}
-
-/// What follows this line of a certificate, in which version; or what is wrong with it.
-fn row_behind(
-    alloc: Global,
-    form: CertificateForm,
-    line: &[u8],
-    row: Row,
-    version: Version,
-) -> Result<Result<(Row, Version), Flaw>, AllocError> {
-    let placed = match placed_or_flaw(alloc, line)? {
-        Ok(placed) => placed,
-        Err(flaw) => return Ok(Err(flaw)),
-    };
-    if placed.is_empty() {
-        return Ok(Ok((row, version)));
-    }
-    let source = TokenizedText {
-        text: line,
-        tokens: placed.as_slice(),
-    };
-    match row_flaw(alloc, form, source, row)? {
-        Some(flaw) => Ok(Err(flaw)),
-        None => Ok(Ok(row_after(form, source, row, version))),
-    }
-}
-
-/// What follows a line of these tokens, in which version.
-fn row_after(
-    form: CertificateForm,
-    source: TokenizedText,
-    row: Row,
-    version: Version,
-) -> (Row, Version) {
-    match row {
-        Row::Version => (Row::Bound, version_of(form, source).unwrap_or(version)),
-        Row::Bound | Row::Node(_) => (Row::Node(version), version),
-    }
-}
-
-/// What is wrong with a line of a certificate.
-fn row_flaw(
+/// What is wrong with a line of a certificate that has tokens and is to be such a row.
+pub fn row_flaw(
     alloc: Global,
     form: CertificateForm,
     source: TokenizedText,
@@ -231,7 +166,7 @@ fn no_version(
 }
 
 /// The version that the tokens of a certificate's first line name.
-fn version_of(form: CertificateForm, source: TokenizedText) -> Option<Version> {
+pub fn version_of(form: CertificateForm, source: TokenizedText) -> Option<Version> {
     match source.token(1)? {
         Token::Number(digits) => {
             let number = number(digits.as_slice(), u64::from(u32::MAX))?;
@@ -242,7 +177,7 @@ fn version_of(form: CertificateForm, source: TokenizedText) -> Option<Version> {
 }
 
 /// A certificate that ends before its nodes.
-fn ends_early(alloc: Global, form: CertificateForm, at: usize) -> Result<Flaw, AllocError> {
+pub fn ends_early(alloc: Global, form: CertificateForm, at: usize) -> Result<Flaw, AllocError> {
     let sentence = String::from_str(alloc, "the certificate ends too early")?;
     Flaw::with_advice(alloc, at, sentence, Some(form.front()))
 }

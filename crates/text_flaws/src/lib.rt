@@ -2,6 +2,7 @@
 #![tactic(auto)]
 
 mod bytes;
+mod certificate_lines;
 mod certificates;
 mod further;
 mod limits;
@@ -10,7 +11,7 @@ mod parts;
 mod program;
 mod unexpected;
 
-pub use certificates::{certificate_flaw, settling_flaw};
+pub use certificate_lines::{certificate_flaws, settling_flaws};
 pub use further::{further_program_flaws, further_script_flaws};
 pub use limits::script_size_flaw;
 pub use lines::script_flaw;

@@ -8,6 +8,7 @@ mod source;
 mod unexpected;
 mod wanted;
 
+pub use advice::VERBS;
 pub use source::TokenizedText;
 pub use unexpected::Unexpected;
 pub use wanted::is_among;

@@ -1,21 +1,17 @@
 //! What is wrong with a certificate, beside its program.
 
 use crate::program::{Located, MessageWithHelp};
-use crate::refusal::refusal_finding;
+use crate::refusal::certificate_findings;
 use certificate_lang::{Certificate, read_certificate};
-use class_lang::Limits;
 use effect_scan::Numbering;
 use findings::{Finding, JudgedText, Rule, Verdict};
-use program_commands::Refusal;
 use program_flaws::{cause_place, cause_text};
 use rank_check::{Cause, Mistake, judge};
 use std::alloc::AllocError;
 
-/// Adds why the certificate can't be read, or isn't valid for the program, which was read by these limits, where that lies in
-/// the certificate.
+/// Adds why the certificate can't be read, or isn't valid for the program, where that lies in the certificate.
 pub fn gather_certificate(
     located: Located<'_>,
-    limits: Limits,
     text: &[u8],
     found: &mut Verdict,
 ) -> Result<(), AllocError> {
@@ -23,8 +19,10 @@ pub fn gather_certificate(
     let certificate = match read_certificate(alloc, text) {
         Ok(certificate) => certificate,
         Err(fault) => {
-            let finding = refusal_finding(alloc, limits, text, &Refusal::Certificate(fault))?;
-            return push(located, found, finding);
+            for finding in certificate_findings(alloc, text, fault)? {
+                push(located, found, finding)?;
+            }
+            return Ok(());
         }
     };
     match judge(alloc, located.source.meta, &certificate) {

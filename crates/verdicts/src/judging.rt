@@ -375,7 +375,7 @@ fn gather(
     let remarks = gather_program(located, listed.edges, found)?;
     add_remarks(levels, listed, remarks, found)?;
     if let Some(certificate) = texts.certificate {
-        gather_certificate(located, limits, certificate, found)?;
+        gather_certificate(located, certificate, found)?;
     }
     found.absent = absent(alloc, found, listed.edges)?;
     Ok(())

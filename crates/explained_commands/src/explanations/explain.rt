@@ -15,8 +15,8 @@ use rank_check::{Denied, No};
 use script_lang::ScriptFault;
 use std::alloc::{AllocError, Global};
 use text_flaws::{
-    certificate_flaw, further_program_flaws, further_script_flaws, program_flaw, script_flaw,
-    script_size_flaw, settling_flaw,
+    certificate_flaws, further_program_flaws, further_script_flaws, program_flaw, script_flaw,
+    script_size_flaw, settling_flaws,
 };
 use trace_entries::Fault;
 use verdicts::found_errors;
@@ -117,18 +117,30 @@ fn push_place_of(
     refusal: &Refusal,
 ) -> Result<(), AllocError> {
     let placed = PlacedText::of(asked.alloc, input, text_at_fault(refusal))?;
-    let source = placed.source();
-    let Some(flaw) = flaw_of(asked, source, refusal)? else {
-        return Ok(());
-    };
-    placed.push(text, Severity::Error, &flaw)?;
-    for flaw in further_flaws(asked.alloc, source, refusal)? {
+    for flaw in flaws_of(asked, placed.source(), refusal)? {
         placed.push(text, Severity::Error, &flaw)?;
     }
     Ok(())
 }
 
-/// What else is wrong with that text.
+/// What is wrong with that text, the first first.
+fn flaws_of(asked: Asked<'_>, source: &[u8], refusal: &Refusal) -> Result<Vec<Flaw>, AllocError> {
+    let alloc = asked.alloc;
+    match refusal {
+        Refusal::Certificate(_) if asked.is_settling => settling_flaws(alloc, source, MOST_TOLD),
+        Refusal::Certificate(_) => certificate_flaws(alloc, source, MOST_TOLD),
+        _ => {
+            let mut flaws = Vec::new(alloc);
+            if let Some(first) = first_flaw(asked, source, refusal)? {
+                flaws.push(first)?;
+                flaws.append(&mut further_flaws(alloc, source, refusal)?)?;
+            }
+            Ok(flaws)
+        }
+    }
+}
+
+/// What else is wrong with a text that is no certificate.
 fn further_flaws(alloc: Global, source: &[u8], refusal: &Refusal) -> Result<Vec<Flaw>, AllocError> {
     let number = refusal.number().unwrap_or(0);
     let most = MOST_TOLD.saturating_sub(1);
@@ -160,8 +172,12 @@ fn text_at_fault(refusal: &Refusal) -> TextKind {
     }
 }
 
-/// What is wrong with that text.
-fn flaw_of(asked: Asked<'_>, source: &[u8], refusal: &Refusal) -> Result<Option<Flaw>, AllocError> {
+/// What is wrong first with a text that is no certificate.
+fn first_flaw(
+    asked: Asked<'_>,
+    source: &[u8],
+    refusal: &Refusal,
+) -> Result<Option<Flaw>, AllocError> {
     let Some(number) = refusal.number() else {
         return Ok(None);
     };
@@ -173,11 +189,9 @@ fn flaw_of(asked: Asked<'_>, source: &[u8], refusal: &Refusal) -> Result<Option<
             None => Ok(None),
         },
         Refusal::Natives(misfit) => native_flaw(alloc, source, *misfit),
-        Refusal::Certificate(_) if asked.is_settling => settling_flaw(alloc, source),
-        Refusal::Certificate(_) => certificate_flaw(alloc, source),
         Refusal::Script(ScriptFault::BadLine(line)) => script_flaw(alloc, source, *line),
         Refusal::Script(_) => script_size_flaw(alloc, source),
-        Refusal::Check(_) | Refusal::Unsettled(_) => Ok(None),
+        Refusal::Certificate(_) | Refusal::Check(_) | Refusal::Unsettled(_) => Ok(None),
     }
 }
 

@@ -13,7 +13,7 @@ use texts::{Symbol, Token, Word};
 use token_reading::Wanted;
 
 /// The first words of events.
-const VERBS: [&[u8]; 15] = [
+pub const VERBS: [&[u8]; 15] = [
     b"loop",
     b"turn",
     b"new",
