@@ -54,6 +54,8 @@ class Verdict:
     more: int
     accepted: int
     status: int
+    # Whether there are more than are counted.
+    is_least: bool = False
 
     def sort(self) -> None:
         """The gravest first."""
@@ -64,6 +66,13 @@ class Verdict:
         has_errors = self.more or any(f.severity == 'error' for f in self.findings)
         return self.status if has_errors or self.status != FOUND else 0
 
+    def counts(self) -> dict[str, object]:
+        """What isn't shown, as JSON and SARIF tell it."""
+        told: dict[str, object] = {'more': self.more}
+        if self.is_least:
+            told['atLeast'] = True
+        return told | {'accepted': self.accepted}
+
     def counted(self) -> str:
         """How many findings there are, of which severities where not all are errors."""
         count = len(self.findings) + self.more
@@ -71,7 +80,8 @@ class Verdict:
             return 'nothing is found'
         parts = [(sum(f.severity == severity for f in self.findings), severity) for severity in SEVERITIES]
         told = ', '.join(plural(number, word) for number, word in parts if number)
-        return plural(count, 'finding') + (f': {told}' if parts[0][0] < len(self.findings) else '')
+        least = 'at least ' if self.is_least else ''
+        return least + plural(count, 'finding') + (f': {told}' if parts[0][0] < len(self.findings) else '')
 
 
 def plural(count: int, word: str) -> str:
@@ -97,7 +107,8 @@ BY = {'queued': 'wire', 'direct': 'statement'}
 def judge(program: str, places: Places, wide: bool = False) -> Verdict:
     """What the checker says of a program, with its places in C++. A `wide` one is over the standard limits."""
     told, status = _asked(program, wide)
-    verdict = Verdict([finding_of(f, places) for f in told['findings']], int(told.get('more', 0)), int(told.get('accepted', 0)), status)
+    verdict = Verdict([finding_of(f, places) for f in told['findings']], int(told.get('more', 0)), int(told.get('accepted', 0)), status,
+                      bool(told.get('atLeast', False)))
     verdict.sort()
     return verdict
 
@@ -170,7 +181,8 @@ class Teller:
                 lines.append(f'  help: {finding.help}')
         lines.append(verdict.counted())
         if verdict.more:
-            lines.append(f'{verdict.more} of them aren\'t shown')
+            least = 'at least ' if verdict.is_least else ''
+            lines.append(f'{least}{verdict.more} of them aren\'t shown')
         return '\n'.join(lines) + '\n'
 
     def _head(self, spot: Spot) -> str:
@@ -221,7 +233,7 @@ class Teller:
             told |= {name: it for name, it in (('number', finding.number), ('help', finding.help), ('note', finding.note)) if it}
             told |= self._spot(finding.spot) | {'chain': self._steps(finding.chain)}
             findings.append(told | ({'also': self._steps(finding.also)} if finding.also else {}))
-        return json.dumps({'version': 1, 'findings': findings, 'more': verdict.more, 'accepted': verdict.accepted}, indent=1, ensure_ascii=False) + '\n'
+        return json.dumps({'version': 1, 'findings': findings, **verdict.counts()}, indent=1, ensure_ascii=False) + '\n'
 
     # SARIF
 
@@ -262,6 +274,6 @@ class Teller:
             results.append(result)
         run = {'tool': {'driver': {'name': 'gammonfig read', 'rules': [{'id': r} for r in rules]}}, 'results': results,
                'originalUriBaseIds': {'%SRCROOT%': {'uri': 'file://' + quote(self.root) + '/'}},
-               'properties': {'more': verdict.more, 'accepted': verdict.accepted}}
+               'properties': verdict.counts()}
         whole = {'$schema': 'https://json.schemastore.org/sarif-2.1.0.json', 'version': '2.1.0', 'runs': [run]}
         return json.dumps(whole, indent=1, ensure_ascii=False) + '\n'

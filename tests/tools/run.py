@@ -187,23 +187,40 @@ def judge_large(bench, count, program):
         told = json.loads(bench.run(program, ["verdict", "--json"], chained(length)).output)
         count.check([it["rule"] for it in told["findings"]] == rules, lambda: f"a chain of {length}: {told}")
         for it in told["findings"]:
+            last = (length - 1) // 50, length - 1
             holds = len(it["chain"]) == 256 and all(step["by"] == "wire" for step in it["chain"])
-            count.check(holds, lambda: f"a chain of {length}: {it['chain']}")
+            holds = holds and "from `C0.s0()` to `C%d.s%d()`" % last in it["message"] and f"nests {length} deep:" in it["message"]
+            holds = holds and it["message"].endswith("its first 256 steps are told") == (length > 257)
+            count.check(holds, lambda: f"a chain of {length}: {it}")
+    several = b"\n".join((chained(260), chained(280).replace(b"C", b"D"), b"class Z { slot f() { call this.f(); } }"))
+    told = {it["rule"]: it["message"] for it in json.loads(bench.run(program, ["verdict", "--json"], several).output)["findings"]}
+    holds = "the longest chain of direct calls beside cycles, from `D0.s0()` to `D5.s279()`, nests 280 deep:" in told["chain-too-long"]
+    count.check(holds and set(told) == {"chain-too-long", "cycle"}, lambda: f"two long chains and a cycle: {told}")
     calls = [" ".join(f"call this.f{to}();" for to in range(6) if to != it) for it in range(6)]
     dense = f"class A {{ {' '.join(f'slot f{it}() {{ {body} }}' for it, body in enumerate(calls))} }}".encode()
     told = json.loads(bench.run(program, ["verdict", "--json"], dense).output)
     edges = {(step["from"], step["to"]) for it in told["findings"] for step in it["chain"]}
-    holds = [it["rule"] for it in told["findings"]] == ["cycle"] * 10 and len(edges) == 20 and told["more"] == 0
+    holds = [it["rule"] for it in told["findings"]] == ["cycle"] * 10 and len(edges) == 20 and told["more"] == 0 and told["atLeast"]
     count.check(holds, lambda: f"15 cycles of two: {told}")
+    lines = bench.run(program, ["verdict"], dense).output.splitlines()
+    count.check(lines[-1] == b"10 findings, and more", lambda: f"15 cycles of two: {lines[-1]}")
+    log = json.loads(bench.run(program, ["verdict", "--sarif"], dense).output)
+    count.check(log["runs"][0]["properties"] == {"more": 0, "atLeast": True, "accepted": 0}, lambda: f"15 cycles of two: {log['runs'][0]['properties']}")
     many = b"class A { signal s(); slot f(int v) { } }\n" + b"wire A s() -> A f(int) queued;\n" * 130
     told = json.loads(bench.run(program, ["verdict", "--json", "--off", "wire-unused"], many).output)
-    count.check((len(told["findings"]), told["more"]) == (100, 30), lambda: f"130 wires that don't fit: {told}")
+    holds = (len(told["findings"]), told["more"]) == (100, 30) and "atLeast" not in told
+    count.check(holds, lambda: f"130 wires that don't fit: {told}")
     lines = bench.run(program, ["verdict", "--off", "wire-unused"], many).output.splitlines()
     count.check(lines[-1] == b"100 findings, and 30 more", lambda: f"130 wires that don't fit: {lines[-1]}")
     crowd = b"\n".join(dense.replace(b"class A", b"class A%d" % it) for it in range(11)) + b"\nclass Z { slot end() { delete this; } }\n"
     told = json.loads(bench.run(program, ["verdict", "--json"], crowd).output)
     rules = Counter(it["rule"] for it in told["findings"])
-    count.check(rules == {"cycle": 100, "destroy-path": 1} and told["more"] > 0, lambda: f"110 cycles and a deletion: {rules}, and {told['more']} more")
+    count.check(rules == {"cycle": 100, "destroy-path": 1} and told["more"] == 1 and told["atLeast"], lambda: f"110 cycles and a deletion: {rules}, and {told['more']} more")
+    rings = b"".join(b"class R%d { signal a(); slot f() { emit a(); } signal b(); slot g() { emit b(); } }\n" % it for it in range(60))
+    rings += b"".join(b"wire R%d a() -> R%d f() queued;\nwire R%d b() -> R%d g() queued;\n" % (it, it, it, it) for it in range(60))
+    told = json.loads(bench.run(program, ["verdict", "--json"], rings).output)
+    holds = Counter(it["rule"] for it in told["findings"]) == {"queued-cycle": 100} and told["more"] == 20 and "atLeast" not in told
+    count.check(holds, lambda: f"120 cycles through an event loop: {told['findings'][:1]}, and {told['more']} more")
 
 
 # Of the rules that are about an edge of the programs below, their fingerprints.

@@ -27,6 +27,8 @@ pub struct Verdict {
     pub more_errors: usize,
     /// How many more warnings and notes there are.
     pub more_others: usize,
+    /// Whether there are more than these counts say: a search for them ended early.
+    pub is_least: bool,
     /// The edges on which there are cycles and that can be accepted, whether they are or not.
     pub edges: Vec<PlacedEdge>,
     /// How many of these are accepted.
@@ -56,6 +58,7 @@ impl Verdict {
             notes: Vec::new(alloc),
             more_errors: 0,
             more_others: 0,
+            is_least: false,
             edges: Vec::new(alloc),
             accepted: 0,
             bound: 0,
@@ -84,15 +87,25 @@ impl Verdict {
         if self.count_of(rule, severity) < MOST_TOLD {
             return Some(severity);
         }
-        match severity {
-            FindingSeverity::Error => {
-                self.more_errors = self.more_errors.saturating_add(1);
-                None
-            }
-            FindingSeverity::Warning | FindingSeverity::Note => {
+        self.count(asked);
+        None
+    }
+
+    /// Counts one more finding that is as grave as this, or off, and isn't reported.
+    pub fn count(&mut self, asked: Option<FindingSeverity>)
+        ensures errors { self.new.errors ≡ self.old.errors }
+        ensures status { self.new.status ≡ self.old.status }
+        ensures counted { asked ≡ Some Error → self.old.more_errors < 2 ^ 64 - 1 →
+            self.new.more_errors ≡ self.old.more_errors + 1 }
+        ensures uncounted { asked ≢ Some Error → self.new.more_errors ≡ self.old.more_errors }
+        ensures off { asked ≡ None → self.new ≡ self.old }
+    {
+        match asked {
+            Some(FindingSeverity::Error) => self.more_errors = self.more_errors.saturating_add(1),
+            Some(FindingSeverity::Warning | FindingSeverity::Note) => {
                 self.more_others = self.more_others.saturating_add(1);
-                None
             }
+            None => {}
         }
     }
 
@@ -148,12 +161,12 @@ impl Verdict {
             .saturating_add(self.notes.len())
     }
 
-    /// How many errors there are.
+    /// How many errors there are, or at least as many (`is_least`).
     pub fn error_count(&self) -> usize {
         self.errors.len().saturating_add(self.more_errors)
     }
 
-    /// How many more findings there are than are reported.
+    /// How many more findings there are than are reported, or at least as many (`is_least`).
     pub fn more(&self) -> usize {
         self.more_errors.saturating_add(self.more_others)
     }

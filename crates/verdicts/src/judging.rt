@@ -9,7 +9,7 @@ ghost use Rattle.verdicts.specs.Statuses.{HasStatus, IsRefusedAs};
 
 use crate::certificate::gather_certificate;
 use crate::judged::judged_finding;
-use crate::program::{Located, gather_program, program_remarks, settled_remarks};
+use crate::program::{Located, Remarks, gather_program, program_remarks, settled_remarks};
 use crate::refusal::{add_further, refusal_finding};
 use class_lang::Limits;
 use effect_scan::Scan;
@@ -54,7 +54,7 @@ pub struct AcceptedEdges<'l> {
 
 /// All that is found of a program, which is read by these limits, and its certificate: what refuses a text; and of a program
 /// that loads each wire that doesn't fit, each member and binding that isn't typed, one cycle of each set of members that all
-/// lead to one another, by each edge, what deletes an object while a slot, a native or a signal of it is active, one chain that is too long,
+/// lead to one another, by each edge, what deletes an object while a slot, a native or a signal of it is active, the longest chain where it is too long,
 /// and what is worth a warning or a note; then what the check says of the certificate. Each is as grave as the levels say, and cycles
 /// on the list are counted alone. Where no certificate is given and the program has a settling one, its cycles are notes. The exit
 /// status is 2 where a text is refused, else 3 where an error is found and 0 where none is. Where the levels are those of the table
@@ -130,14 +130,14 @@ fn certified_remarks(
     texts: Texts<'_>,
     levels: Levels<'_>,
     judged: &Outcome,
-) -> Result<Vec<Finding>, AllocError> {
+) -> Result<Remarks, AllocError> {
     let (meta, scan) = match judged {
         Outcome::Certificate(certified) => (certified.meta(), &certified.ranks().scan),
         Outcome::Valid(checked) => (checked.meta(), checked.scan()),
         Outcome::Settling(SettlingOutcome::Certificate(meta, certificate)) => {
             return settling_remarks(alloc, texts.program, meta, certificate.as_slice(), levels);
         }
-        _ => return Ok(Vec::new(alloc)),
+        _ => return Ok(Remarks::new(alloc)),
     };
     let found = remarks_by(alloc, b"", meta, scan, levels)?;
     if found.is_empty() {
@@ -153,9 +153,9 @@ fn settling_remarks(
     meta: &Meta,
     certificate: &[u8],
     levels: Levels<'_>,
-) -> Result<Vec<Finding>, AllocError> {
+) -> Result<Remarks, AllocError> {
     let Some(read) = ReadProgram::of(alloc, text)? else {
-        return Ok(Vec::new(alloc));
+        return Ok(Remarks::new(alloc));
     };
     let located = Located::of(alloc, &read, meta, levels);
     settled_remarks(located, certificate)
@@ -168,9 +168,9 @@ fn remarks_by(
     meta: &Meta,
     scan: &Scan,
     levels: Levels<'_>,
-) -> Result<Vec<Finding>, AllocError> {
+) -> Result<Remarks, AllocError> {
     let Some(read) = ReadProgram::of(alloc, text)? else {
-        return Ok(Vec::new(alloc));
+        return Ok(Remarks::new(alloc));
     };
     let located = Located::of(alloc, &read, meta, levels);
     program_remarks(located, scan)
@@ -180,15 +180,33 @@ fn remarks_by(
 fn add_remarks(
     levels: Levels<'_>,
     listed: AcceptedEdges<'_>,
-    remarks: Vec<Finding>,
+    remarks: Remarks,
     found: &mut Verdict,
 ) -> Result<(), AllocError>
     ensures { levels.entry.changes.now ≡ [] → found.new.errors ≡ found.old.errors }
 {
-    for remark in remarks {
+    let Remarks {
+        findings,
+        untold,
+        cut,
+    } = remarks;
+    for remark in findings {
         add_remark(levels, listed, remark, found)?;
     }
+    count_untold(levels, untold.as_slice(), found);
+    found.is_least |= cut
+        .iter()
+        .any(|rule: &Rule| levels.of_remark(*rule).is_some());
     Ok(())
+}
+
+/// Counts findings of these rules that aren't looked for.
+fn count_untold(levels: Levels<'_>, rules: &[Rule], found: &mut Verdict)
+    ensures { found.new.errors ≡ found.old.errors }
+{
+    for rule in rules {
+        found.count(levels.of_remark(*rule));
+    }
 }
 
 /// Adds the finding, which is no error but where that is asked for.

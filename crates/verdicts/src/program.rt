@@ -18,6 +18,7 @@ mod walks;
 
 pub use located::Located;
 pub use program::{gather_program, program_errors, program_remarks, settled_remarks};
+pub use remarks::Remarks;
 pub use sentences::MessageWithHelp;
 pub use walks::{
     DirectedGraph, Hop, Hops, components, components_of_nodes, is_marked, marks, set_mark,

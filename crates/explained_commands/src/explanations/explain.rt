@@ -277,6 +277,7 @@ pub fn push_untyped(
         .errors
         .retain(|finding: &Finding| is_of_types(finding.rule));
     found.more_errors = 0;
+    found.is_least = false;
     text.push_str("what isn't typed in the program, as `certify` says without a run:\n")?;
     push_found(text, alloc, &found, 0)
 }
@@ -302,9 +303,10 @@ fn push_found(
     for finding in found.errors.iter().take(MOST_TOLD) {
         push_finding(text, alloc, FindingSeverity::Error, finding, names)?;
     }
+    let least = if found.is_least { "at least " } else { "" };
     match found.error_count().saturating_sub(MOST_TOLD) {
         0 => Ok(()),
-        more => writeln!(text, "and {more} more errors, which `verdict` tells"),
+        more => writeln!(text, "and {least}{more} more errors, which `verdict` tells"),
     }
 }
 

@@ -16,6 +16,8 @@ struct Report<'v> {
     version: usize,
     findings: Vec<FindingEntry<'v>>,
     more: usize,
+    #[serde(rename = "atLeast", skip_serializing_if = "Option::is_none")]
+    at_least: Option<bool>,
     accepted: usize,
 }
 
@@ -86,6 +88,7 @@ pub fn json_report(
         version: FORM,
         findings,
         more: verdict.more(),
+        at_least: if verdict.is_least { Some(true) } else { None },
         accepted: verdict.accepted,
     };
     json_text(alloc, &report)

@@ -42,6 +42,8 @@ struct SarifRun<'v> {
 #[derive(Drop, Serialize)]
 struct SarifCounts {
     more: usize,
+    #[serde(rename = "atLeast", skip_serializing_if = "Option::is_none")]
+    at_least: Option<bool>,
     accepted: usize,
 }
 
@@ -211,6 +213,7 @@ fn run_of<'v>(
         results,
         properties: SarifCounts {
             more: verdict.more(),
+            at_least: if verdict.is_least { Some(true) } else { None },
             accepted: verdict.accepted,
         },
     })

@@ -110,9 +110,11 @@ fn push_count(text: &mut String, verdict: &Verdict) -> Result<(), AllocError> {
             }
         }
     }
-    let more = verdict.more();
-    if more > 0 {
-        write!(text, ", and {more} more")?;
+    match (verdict.more(), verdict.is_least) {
+        (0, false) => {}
+        (0, true) => text.push_str(", and more")?,
+        (more, false) => write!(text, ", and {more} more")?,
+        (more, true) => write!(text, ", and at least {more} more")?,
     }
     let accepted = verdict.accepted;
     if accepted > 0 {

@@ -154,21 +154,31 @@ impl ComponentCycles<'_> {
     fn gather(&self, edges: &[(usize, usize)], found: &mut Verdict) -> Result<(), AllocError> {
         let mut passed: BTreeSet<(usize, usize)> = BTreeSet::new(self.search.graph.alloc);
         let mut cycles = 0usize;
+        let level = self.search.located.levels.of(Rule::Cycle);
         for edge in edges {
-            if cycles < MOST_CYCLES && !passed.contains(edge) {
-                cycles = cycles.saturating_add(1);
-                let Some(severity) = found.taken(
-                    Rule::Cycle,
-                    self.search.located.levels.of(Rule::Cycle),
-                ) else {
-                    return Ok(());
-                };
-                let cycle = self.pass(*edge, &mut passed)?;
-                let finding = self.finding(cycle.as_slice())?;
-                found.push(severity, finding)?;
+            if passed.contains(edge) {
+                continue;
             }
+            if cycles == MOST_CYCLES {
+                found.is_least |= level.is_some();
+                return Ok(());
+            }
+            cycles = cycles.saturating_add(1);
+            let Some(severity) = found.taken(Rule::Cycle, level) else {
+                // It was counted. Which other edges are on it isn't looked for.
+                found.is_least |= level.is_some() && !self.is_one_cycle(edges);
+                return Ok(());
+            };
+            let cycle = self.pass(*edge, &mut passed)?;
+            let finding = self.finding(cycle.as_slice())?;
+            found.push(severity, finding)?;
         }
         Ok(())
+    }
+
+    /// Whether these edges, which are those of the component that aren't accepted, are a single cycle.
+    pub fn is_one_cycle(&self, edges: &[(usize, usize)]) -> bool {
+        !self.has_accepted && edges.len() == self.component.len()
     }
 
     /// The nodes of a shortest cycle that begins with the edge. Its edges are passed then.

@@ -4,13 +4,13 @@ use crate::program::chains::gather_chain;
 use crate::program::cycles::gather_cycles;
 use crate::program::deletions::{Deletion, deletions, gather_deletions};
 use crate::program::located::Located;
-use crate::program::remarks::remarks;
+use crate::program::remarks::{Remarks, add_remarks};
 use crate::program::resting::add_settling_cycles;
 use crate::program::search::{ProgramGraph, ProgramSearch};
 use crate::program::typing_flaws::{gather_types, gather_wires};
 use crate::program::walks::DirectedGraph;
 use effect_scan::Scan;
-use findings::{Edge, Finding, Verdict};
+use findings::{Edge, Verdict};
 use std::alloc::AllocError;
 
 /// Adds what is wrong with the program, and answers what is worth a warning or a note; cycles on the list are counted alone.
@@ -18,11 +18,13 @@ pub fn gather_program(
     located: Located<'_>,
     accepted: &[Edge],
     found: &mut Verdict,
-) -> Result<Vec<Finding>, AllocError> {
+) -> Result<Remarks, AllocError> {
     let graph = ProgramGraph::of(located)?;
     let search = graph.search(located);
     let deletions = gather_errors(search, accepted, found)?;
-    remarks(search, deletions.as_slice())
+    let mut remarks = Remarks::new(located.source.alloc);
+    add_remarks(search, deletions.as_slice(), &mut remarks)?;
+    Ok(remarks)
 }
 
 /// Adds what is wrong with the program, and nothing else.
@@ -49,8 +51,9 @@ fn gather_errors(
 }
 
 /// What is worth a warning or a note in a program that has a certificate, whose nodes and edges these are.
-pub fn program_remarks(located: Located<'_>, scan: &Scan) -> Result<Vec<Finding>, AllocError> {
-    let graph = DirectedGraph::of(located.source.alloc, scan)?;
+pub fn program_remarks(located: Located<'_>, scan: &Scan) -> Result<Remarks, AllocError> {
+    let alloc = located.source.alloc;
+    let graph = DirectedGraph::of(alloc, scan)?;
     let search = ProgramSearch {
         located,
         scan,
@@ -58,20 +61,18 @@ pub fn program_remarks(located: Located<'_>, scan: &Scan) -> Result<Vec<Finding>
         components: &[],
     };
     let deletions = deletions(search)?;
-    remarks(search, deletions.as_slice())
+    let mut remarks = Remarks::new(alloc);
+    add_remarks(search, deletions.as_slice(), &mut remarks)?;
+    Ok(remarks)
 }
 
 /// The same in a program that has this settling certificate: its cycles come to rest, and each is told.
-pub fn settled_remarks(
-    located: Located<'_>,
-    certificate: &[u8],
-) -> Result<Vec<Finding>, AllocError> {
+pub fn settled_remarks(located: Located<'_>, certificate: &[u8]) -> Result<Remarks, AllocError> {
     let graph = ProgramGraph::of(located)?;
     let search = graph.search(located);
-    let mut found = Vec::new(located.source.alloc);
-    add_settling_cycles(search, certificate, &mut found)?;
+    let mut remarks = Remarks::new(located.source.alloc);
+    add_settling_cycles(search, certificate, &mut remarks)?;
     let deletions = deletions(search)?;
-    let mut others = remarks(search, deletions.as_slice())?;
-    found.append(&mut others)?;
-    Ok(found)
+    add_remarks(search, deletions.as_slice(), &mut remarks)?;
+    Ok(remarks)
 }

@@ -8,26 +8,51 @@ use crate::program::search::ProgramSearch;
 use crate::program::turns::{add_queued_cycles, add_re_entries};
 use findings::{Finding, JudgedText, Rule};
 use program_flaws::{Warning, warning_text, warnings};
-use std::alloc::AllocError;
+use std::alloc::{AllocError, Global};
 
-/// What is worth it, in the order of the rules and of the text.
-pub fn remarks(
+/// What is worth a warning or a note.
+#[derive(Drop)]
+pub struct Remarks {
+    pub findings: Vec<Finding>,
+    /// The rules of others, which are only counted, since so many were looked for before them.
+    pub untold: Vec<Rule>,
+    /// The rules of which there are more, which aren't counted either: one for each search that ended early.
+    pub cut: Vec<Rule>,
+}
+
+impl Remarks {
+    /// Nothing yet.
+    pub fn new(alloc: Global) -> Remarks {
+        Remarks {
+            findings: Vec::new(alloc),
+            untold: Vec::new(alloc),
+            cut: Vec::new(alloc),
+        }
+    }
+
+    /// Whether there is nothing.
+    pub fn is_empty(&self) -> bool {
+        self.findings.is_empty() && self.untold.is_empty() && self.cut.is_empty()
+    }
+}
+
+/// Adds what is worth it, in the order of the rules and of the text.
+pub fn add_remarks(
     search: ProgramSearch<'_>,
     deletions: &[Deletion],
-) -> Result<Vec<Finding>, AllocError> {
+    remarks: &mut Remarks,
+) -> Result<(), AllocError> {
     let located = search.located;
-    let alloc = located.source.alloc;
-    let mut remarks = Vec::new(alloc);
     let posts = PostGraph::of(search)?;
-    add_re_entries(search, &posts, &mut remarks)?;
-    add_queued_cycles(search, &posts, &mut remarks)?;
-    add_lost_senders(located, deletions, &mut remarks)?;
-    add_dropped_calls(search, &posts, &mut remarks)?;
-    for warning in warnings(alloc, located.source.meta, None)? {
+    add_re_entries(search, &posts, &mut remarks.findings)?;
+    add_queued_cycles(search, &posts, remarks)?;
+    add_lost_senders(located, deletions, &mut remarks.findings)?;
+    add_dropped_calls(search, &posts, &mut remarks.findings)?;
+    for warning in warnings(located.source.alloc, located.source.meta, None)? {
         let finding = warning_finding(located, &warning)?;
-        remarks.push(finding)?;
+        remarks.findings.push(finding)?;
     }
-    Ok(remarks)
+    Ok(())
 }
 
 /// The warning as a finding.

@@ -3,6 +3,7 @@
 use crate::program::cycles::{
     BindingEdges, ComponentCycles, MOST_CYCLES, is_property, place_in, same_component,
 };
+use crate::program::remarks::Remarks;
 use crate::program::search::ProgramSearch;
 use crate::program::sentences::push_names;
 use crate::program::turns::remark;
@@ -82,7 +83,7 @@ fn add_silent(
 pub fn add_settling_cycles(
     search: ProgramSearch<'_>,
     certificate: &[u8],
-    remarks: &mut Vec<Finding>,
+    remarks: &mut Remarks,
 ) -> Result<(), AllocError> {
     let bindings = BindingEdges::of(search)?;
     let places = components_of_nodes(search.graph, search.components)?;
@@ -210,22 +211,35 @@ impl SettlingCycles<'_> {
         &self,
         edges: &[(usize, usize)],
         shown: &mut usize,
-        remarks: &mut Vec<Finding>,
+        remarks: &mut Remarks,
     ) -> Result<(), AllocError> {
         let mut passed: BTreeSet<(usize, usize)> = BTreeSet::new(self.cycles.search.graph.alloc);
         let mut told = 0usize;
         for edge in edges {
-            if told < MOST_CYCLES && !passed.contains(edge) {
-                told = told.saturating_add(1);
-                *shown = shown.saturating_add(1);
-                let cycle = if *shown <= MOST_SHOWN {
-                    self.cycles.pass(*edge, &mut passed)?
-                } else {
-                    Vec::new(self.cycles.search.graph.alloc)
-                };
-                let finding = self.finding(cycle.as_slice())?;
-                remarks.push(finding)?;
+            if passed.contains(edge) {
+                continue;
             }
+            if told == MOST_CYCLES {
+                remarks.cut.push(Rule::SettlingCycle)?;
+                return Ok(());
+            }
+            if *shown == MOST_SHOWN {
+                return self.leave(edges, remarks);
+            }
+            told = told.saturating_add(1);
+            *shown = shown.saturating_add(1);
+            let cycle = self.cycles.pass(*edge, &mut passed)?;
+            let finding = self.finding(cycle.as_slice())?;
+            remarks.findings.push(finding)?;
+        }
+        Ok(())
+    }
+
+    /// Counts a cycle by these edges that isn't looked for.
+    fn leave(&self, edges: &[(usize, usize)], remarks: &mut Remarks) -> Result<(), AllocError> {
+        remarks.untold.push(Rule::SettlingCycle)?;
+        if !self.cycles.is_one_cycle(edges) {
+            remarks.cut.push(Rule::SettlingCycle)?;
         }
         Ok(())
     }

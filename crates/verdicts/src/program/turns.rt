@@ -1,6 +1,7 @@
 //! Cycles that go through an event loop, and slots that run one.
 
 use crate::program::posts::PostGraph;
+use crate::program::remarks::Remarks;
 use crate::program::search::ProgramSearch;
 use crate::program::walks::{components, marks};
 use effect_scan::{Member, Node};
@@ -19,28 +20,56 @@ const MOST_SHOWN: usize = 100;
 pub fn add_queued_cycles(
     search: ProgramSearch<'_>,
     posts: &PostGraph,
-    remarks: &mut Vec<Finding>,
+    remarks: &mut Remarks,
 ) -> Result<(), AllocError> {
     let mut shown = 0usize;
     for component in components(&posts.graph)? {
-        let mut passed: BTreeSet<usize> = BTreeSet::new(posts.graph.alloc);
-        let mut told = 0usize;
-        for number in component.iter() {
-            if posts.post(*number).is_some() && told < MOST_CYCLES && !passed.contains(number) {
-                told = told.saturating_add(1);
-                shown = shown.saturating_add(1);
-                let numbers = if shown <= MOST_SHOWN {
-                    turned(posts, *number, component.as_slice())?
-                } else {
-                    Vec::new(posts.graph.alloc)
-                };
-                for inner in numbers.iter() {
-                    passed.insert(*inner)?;
-                }
-                let finding = queued_cycle(search, posts, numbers.as_slice())?;
-                remarks.push(finding)?;
-            }
+        add_turned(search, posts, component.as_slice(), &mut shown, remarks)?;
+    }
+    Ok(())
+}
+
+/// Adds those of a strongly connected component.
+fn add_turned(
+    search: ProgramSearch<'_>,
+    posts: &PostGraph,
+    component: &[usize],
+    shown: &mut usize,
+    remarks: &mut Remarks,
+) -> Result<(), AllocError> {
+    let mut passed: BTreeSet<usize> = BTreeSet::new(posts.graph.alloc);
+    let mut told = 0usize;
+    for number in component {
+        if posts.post(*number).is_none() || passed.contains(number) {
+            continue;
         }
+        if told == MOST_CYCLES {
+            remarks.cut.push(Rule::QueuedCycle)?;
+            return Ok(());
+        }
+        if *shown == MOST_SHOWN {
+            return leave(posts, component, remarks);
+        }
+        told = told.saturating_add(1);
+        *shown = shown.saturating_add(1);
+        let numbers = turned(posts, *number, component)?;
+        for inner in numbers.iter() {
+            passed.insert(*inner)?;
+        }
+        let finding = queued_cycle(search, posts, numbers.as_slice())?;
+        remarks.findings.push(finding)?;
+    }
+    Ok(())
+}
+
+/// Counts a cycle of this component that isn't looked for.
+fn leave(posts: &PostGraph, component: &[usize], remarks: &mut Remarks) -> Result<(), AllocError> {
+    remarks.untold.push(Rule::QueuedCycle)?;
+    let posting = component
+        .iter()
+        .filter(|number| posts.post(**number).is_some());
+    if posting.count() > 1 {
+        remarks.cut.push(Rule::QueuedCycle)?;
     }
     Ok(())
 }

@@ -158,8 +158,8 @@ impl DirectedGraph {
         Ok(cycle)
     }
 
-    /// A chain of so many edges through nodes that aren't marked, where there is one; the marked ones are those of components that have
-    /// cycles.
+    /// The longest chain through nodes that aren't marked, where it has so many edges; the marked ones are those of components that
+    /// have cycles. Of several that are as long it is the one that begins with the first node.
     pub fn long_chain(
         &self,
         marks: &[bool],
@@ -173,16 +173,10 @@ impl DirectedGraph {
                 hops.set(*node, hop);
             }
         }
-        for node in 0..self.len() {
-            match hops.at(node) {
-                Some(hop) if hop.left >= edges => {
-                    let way = hops.way(self.alloc, node, edges)?;
-                    return Ok(Some(way));
-                }
-                _ => {}
-            }
+        match hops.longest() {
+            Some((node, left)) if left >= edges => Ok(Some(hops.way(self.alloc, node, left)?)),
+            _ => Ok(None),
         }
-        Ok(None)
     }
 
     /// How the longest chain goes on from a node, where those of the nodes are known that it leads to.

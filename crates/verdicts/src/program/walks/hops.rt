@@ -39,6 +39,20 @@ impl Hops {
         }
     }
 
+    /// The first node from which a longest way goes on, and how many edges that has; `None` where there are no ways.
+    pub fn longest(&self) -> Option<(usize, usize)> {
+        let mut longest: Option<(usize, usize)> = None;
+        for (node, hop) in self.hops.iter().enumerate() {
+            if let Some(hop) = hop {
+                match longest {
+                    Some((_, left)) if left >= hop.left => {}
+                    _ => longest = Some((node, hop.left)),
+                }
+            }
+        }
+        longest
+    }
+
     /// The nodes of the way from this one, itself first: as many edges of it as are asked for, and fewer where it ends.
     pub fn way(&self, alloc: Global, from: usize, most: usize) -> Result<Vec<usize>, AllocError> {
         let mut nodes = Vec::new(alloc);
