@@ -128,7 +128,7 @@ def told() -> str:
         rows = {it["crate"]: it for it in csv.DictReader(file)}
     whole = rows.pop(WHOLE)
     minutes = f" and {whole['minutes']} minutes" if whole["minutes"] else ""
-    parts = ", ".join(f"{number(whole[it]):,} for {it}" for it in KINDS if whole[it])
+    parts = ", ".join(f"{number(whole[it]):,} for {it}" for it in KINDS if number(whole[it]))
     dear = sorted(rows.values(), key=lambda it: -number(it["all"]))[:DEAREST]
     names = ", ".join(f"`{it['crate']}` {number(it['all']):,}" for it in dear)
     return (
