@@ -18,4 +18,4 @@ pub use first::{flaw_at, untyped};
 pub use flaws::{GivenType, TypeFault, TypeFlaw};
 pub use laws::typed_have_values;
 pub use spot::Spot;
-pub use wires::unfit_wire;
+pub use wires::{is_fit, unfit_wire};

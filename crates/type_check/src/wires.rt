@@ -21,7 +21,7 @@ pub fn unfit_wire(meta: &Meta) -> Option<usize>
 }
 
 /// Whether the wire's method takes what its signal gives.
-fn is_fit(meta: &Meta, wire: &MetaWire) -> bool
+pub fn is_fit(meta: &Meta, wire: &MetaWire) -> bool
     ensures { IsTrue result ↔ IsFitWire meta.now wire.now }
 {
     let Some(signal) = meta.method_at(wire.sender, wire.signal) else {

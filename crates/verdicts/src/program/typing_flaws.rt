@@ -2,14 +2,12 @@
 
 use crate::program::located::Located;
 use crate::program::sentences::MessageWithHelp;
-use basic_types::fits;
 use diagnostics::TextPlace;
 use effect_scan::Node;
 use findings::{Finding, JudgedText, Rule, Verdict};
-use meta_model::{Meta, MetaWire};
 use program_flaws::{flaw_text, unfit_text};
 use std::alloc::AllocError;
-use type_check::{Spot, flaw_at};
+use type_check::{Spot, flaw_at, is_fit};
 
 /// Adds each wire whose method doesn't fit its signal.
 pub fn gather_wires(located: Located<'_>, found: &mut Verdict) -> Result<(), AllocError> {
@@ -28,17 +26,6 @@ pub fn gather_wires(located: Located<'_>, found: &mut Verdict) -> Result<(), All
         }
     }
     Ok(())
-}
-
-/// Whether the wire's method takes what its signal gives.
-fn is_fit(meta: &Meta, wire: &MetaWire) -> bool {
-    let Some(signal) = meta.method_at(wire.sender, wire.signal) else {
-        return false;
-    };
-    match meta.method_at(wire.receiver, wire.method) {
-        Some(method) => fits(&signal.sig, &method.sig),
-        None => false,
-    }
 }
 
 /// Adds each member and each binding that isn't typed; members where they are declared.
