@@ -6,8 +6,7 @@ use basic_types::Value;
 use explained_commands::{
     EXPLAIN, FIRST_REFUSALS, WriteFault, explained_command, is_asked, tell_fault,
 };
-use native_slots::built_in::{class, doubled, effects, twice};
-use native_slots::{NativeSlot, Natives};
+use native_slots::{Natives, built_in};
 use qt_runtime::Machine;
 use std::alloc::{AllocError, Global};
 use std::io::{ErrorKind, Write};
@@ -48,17 +47,10 @@ fn start(rt: &HostRuntime) -> Result<ExitCode, AllocError> {
 /// `Doubler`: it sets `out` to twice its argument, which is kept within 32 bits, and emits `done(int)` with it.
 fn answer(rt: &HostRuntime, words: &[&str]) -> Result<ExitCode, AllocError> {
     let alloc = rt.alloc();
-    let class = class(alloc)?;
-    let sig = twice(alloc)?;
-    let effects = effects(alloc)?;
     let work = Box::new(alloc, move |arguments: &[Value], _: &[Value]| {
-        match arguments {
-            [Value::Int(number)] => doubled(alloc, number.saturating_mul(2)),
-            _ => Ok(Vec::new(alloc)),
-        }
+        built_in::answer(alloc, arguments)
     })?;
-    let mut slots = Vec::new(alloc);
-    slots.push(NativeSlot::new(class, sig, effects, work))?;
+    let natives = built_in::natives(alloc, work)?;
     let tells_all = env::var(rt, EXPLAIN).is_ok_and(|value| is_asked(value.as_str()));
     let most_refusals = if tells_all {
         usize::MAX
@@ -73,7 +65,7 @@ fn answer(rt: &HostRuntime, words: &[&str]) -> Result<ExitCode, AllocError> {
         alloc,
         words.as_slice(),
         &mut reader,
-        Natives::of(slots),
+        natives,
         &mut writer,
         &mut errors,
         most_refusals,

@@ -1,5 +1,5 @@
-//! The parts of the program's one native: the class that declares it, its signature, its effects, and its actions.
+//! The program's one native: the class that declares it, its signature, its effects, and its answers.
 
 mod native;
 
-pub use native::{class, doubled, effects, twice};
+pub use native::{answer, class, effects, natives, twice};

@@ -2,8 +2,7 @@
 
 use basic_types::Value;
 use explained_commands::{FIRST_REFUSALS, WriteFault, explained_command};
-use native_slots::built_in::{class, doubled, effects, twice};
-use native_slots::{NativeSlot, Natives};
+use native_slots::{Natives, built_in};
 use qt_runtime::Machine;
 use std::alloc::Global;
 use std::io;
@@ -18,18 +17,10 @@ pub fn answered(
     output: &mut Vec<u8>,
     errors: &mut Vec<u8>,
 ) -> io::Result<u8> {
-    let class = class(alloc)?;
-    let sig = twice(alloc)?;
-    let effects = effects(alloc)?;
     let work = Box::new(alloc, move |arguments: &[Value], _: &[Value]| {
-        match arguments {
-            [Value::Int(number)] => doubled(alloc, number.saturating_mul(2)),
-            _ => Ok(Vec::new(alloc)),
-        }
+        built_in::answer(alloc, arguments)
     })?;
-    let mut slots = Vec::new(alloc);
-    slots.push(NativeSlot::new(class, sig, effects, work))?;
-    let natives = Natives::of(slots);
+    let natives = built_in::natives(alloc, work)?;
     let most_refusals = if tells_refusals {
         usize::MAX
     } else {

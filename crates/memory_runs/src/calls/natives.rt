@@ -7,7 +7,7 @@ use crate::once_or_twice;
 use crate::trials::{ReportBuffer, TrialAnswer, loaded};
 use basic_types::{Name, Sig, Value};
 use meta_model::Meta;
-use native_slots::built_in::{class, doubled, effects, twice};
+use native_slots::built_in::{answer, class, effects, twice};
 use native_slots::{Action, Effects, NativeSlot, Natives};
 use std::alloc::{AllocError, Global};
 
@@ -43,12 +43,10 @@ fn with_doubler(
     told: &mut ReportBuffer,
 ) -> Result<TrialAnswer, AllocError> {
     let (class, sig, effects) = parts(alloc)?;
-    let work = Box::new(alloc, move |arguments: &[Value], _: &[Value]| {
-        match arguments {
-            [Value::Int(number)] => doubled(alloc, number.saturating_mul(2)),
-            _ => Ok(Vec::new(alloc)),
-        }
-    })?;
+    let work = Box::new(
+        alloc,
+        move |arguments: &[Value], _: &[Value]| answer(alloc, arguments),
+    )?;
     let mut slots = Vec::new(alloc);
     slots.push(NativeSlot::new(class, sig, effects, work))?;
     let natives = Natives::of(slots);

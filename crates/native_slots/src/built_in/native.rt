@@ -1,11 +1,11 @@
 //! What the native is for, and what it does.
 
-ghost use Rattle.std.specs.Prelude.{◌≡◌, [], ◌∷◌, IfOk, IsTrue, codes};
+ghost use Rattle.std.specs.Prelude.{◌≡◌, [], ◌∷◌, IfOk, IsTrue, codes, map};
 ghost use Rattle.basic_types.specs.Types.{int_name, value_type};
-ghost use Rattle.native_slots.specs.Effects.{are_within};
-ghost use Rattle.native_slots.specs.Doubling.{doubling};
+ghost use Rattle.native_slots.specs.Effects.{accepts, are_within};
+ghost use Rattle.native_slots.specs.Doubling.{doubling, twice_of};
 
-use crate::{Action, Effects, PlainProperty, PlainSignal, PlainType};
+use crate::{Action, Effects, NativeSlot, Natives, PlainProperty, PlainSignal, PlainType, Work};
 use basic_types::{Arguments, INT, Name, QType, Sig, Value};
 use sqlite_items::Items;
 use std::alloc::{AllocError, Global};
@@ -56,8 +56,22 @@ pub fn effects(alloc: Global) -> Result<Effects, AllocError>
     })
 }
 
+/// What it answers: for one number the property is set to twice the number, kept within 32 bits, and then the signal is
+/// emitted with it. Its effects allow no other arguments; for these nothing is asked for.
+pub fn answer(alloc: Global, arguments: &[Value]) -> Result<Vec<Action>, AllocError>
+    ensures actions { (number : _) → arguments.now ≡ Value.Int number ∷ []
+        → IfOk result (λ actions. actions.items ≡ Action.Set 0 (Value.Int (twice_of number))
+        ∷ Action.Emit 0 (Value.Int (twice_of number) ∷ []) ∷ []) }
+    ensures within { IfOk result (λ actions. IsTrue (are_within doubling actions.items)) }
+{
+    match arguments {
+        [Value::Int(number)] => doubled(alloc, number.saturating_mul(2)),
+        _ => Ok(Vec::new(alloc)),
+    }
+}
+
 /// The property is set to the number, and then the signal is emitted with it.
-pub fn doubled(alloc: Global, number: i32) -> Result<Vec<Action>, AllocError>
+fn doubled(alloc: Global, number: i32) -> Result<Vec<Action>, AllocError>
     ensures actions { IfOk result (λ actions. actions.items
         ≡ Action.Set 0 (Value.Int number) ∷ Action.Emit 0 (Value.Int number ∷ []) ∷ []) }
     ensures within { IfOk result (λ actions. IsTrue (are_within doubling actions.items)) }
@@ -68,4 +82,25 @@ pub fn doubled(alloc: Global, number: i32) -> Result<Vec<Action>, AllocError>
     actions.push(Action::Set(0, Value::Int(number)))?;
     actions.push(Action::Emit(0, arguments))?;
     Ok(actions)
+}
+
+/// The closures for programs that declare no other native: this one, which keeps the promise of a closure with its effects.
+pub fn natives(alloc: Global, work: Work) -> Result<Natives, AllocError>
+    requires callable { (arguments reads : _)
+        → IsTrue (accepts doubling arguments.now reads.now) → Work.pre work arguments reads }
+    requires within { (arguments reads outcome : _)
+        → IsTrue (accepts doubling arguments.now reads.now)
+        → Work.post work arguments reads outcome
+        → IfOk outcome (λ actions. IsTrue (are_within doubling actions.items)) }
+    ensures { IfOk result (λ natives. map (λ slot. slot.head) natives.slots.items
+        ≡ record {
+          class = codes "Doubler";
+          sig = record { name = codes "twice"; types = value_type int_name ∷ [] };
+          effects = doubling;
+        } ∷ []) }
+{
+    let slot = NativeSlot::new(class(alloc)?, twice(alloc)?, effects(alloc)?, work);
+    let mut slots = Vec::new(alloc);
+    slots.push(slot)?;
+    Ok(Natives::of(slots))
 }

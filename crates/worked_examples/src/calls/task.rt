@@ -7,8 +7,7 @@ ghost use Rattle.worked_examples.specs.Thermostat.{thermostat_effects};
 use crate::calls::thermostat::{DeclaredNative, declared, judged};
 use anyhow::Result;
 use basic_types::Value;
-use native_slots::built_in::{class, twice};
-use native_slots::{Action, NativeSlot, Natives};
+use native_slots::{Action, NativeSlot, Natives, built_in};
 use std::alloc::{AllocError, Global};
 
 /// What is done once with natives.
@@ -61,11 +60,6 @@ pub fn with_thermostat(alloc: Global, reply: Reply, task: &mut impl NativesTask)
 
 /// Performs a task with a closure for the program's own native that does nothing.
 pub fn with_idle_doubler(alloc: Global, task: &mut impl NativesTask) -> Result<()> {
-    let class = class(alloc)?;
-    let sig = twice(alloc)?;
-    let effects = native_slots::built_in::effects(alloc)?;
     let work = Box::new(alloc, move |_: &[Value], _: &[Value]| Ok(Vec::new(alloc)))?;
-    let mut slots = Vec::new(alloc);
-    slots.push(NativeSlot::new(class, sig, effects, work))?;
-    task.perform(Natives::of(slots))
+    task.perform(built_in::natives(alloc, work)?)
 }
