@@ -3,6 +3,7 @@
 use crate::declarations::declarations::DeclarationRef;
 use crate::declarations::words::ReportedOffence;
 use crate::named_classes::{class_names, lineage};
+use basic_types::{BOOL, INT, QSTRING};
 use class_outlines::{Near, Reason, Unfit};
 use diagnostics::did_you_mean;
 use std::alloc::{AllocError, Global};
@@ -17,7 +18,7 @@ const OF_EACH_OBJECT: [&[u8]; 4] = [
 ];
 
 /// The types of values.
-const VALUE_TYPES: [&[u8]; 3] = [b"int", b"bool", b"QString"];
+const VALUE_TYPES: [&[u8]; 3] = [INT, BOOL, QSTRING];
 
 /// What to write in place of the name for which a declaration is wrong, where it is declared nowhere: one that could stand there,
 /// if they differ in few letters.
