@@ -137,6 +137,11 @@ def joined_classes(count, is_chain):
     return "\n".join(lines).encode()
 
 
+def refused_events(made, event, count):
+    """A program with a script that makes so many objects, and then has so many times an event that is refused."""
+    return b"class C { }\n%%\n" + b"".join(b"new o%d C\n" % it for it in range(made)) + event * count
+
+
 # So many times as many runs as are enough on a quiet machine.
 ROUNDS = 4
 
@@ -147,10 +152,10 @@ class Costs:
     def __init__(self, bench, count, program):
         self.bench, self.count, self.program, self.measured = bench, count, program, []
 
-    def run(self, name, words, text, program=None):
+    def run(self, name, words, text, program=None, environment=None):
         """What a run of this program, or of the one that is tried, comes to; whether it keeps to the bounds is counted."""
         with built.limited({resource.RLIMIT_AS: MEMORY}):
-            found = self.bench.run(program or self.program, words, text)
+            found = self.bench.run(program or self.program, words, text, environment)
         seconds = SECONDS * (OWN_FACTOR if self.program.endswith(".by-rattle") else 1)
         within = found.status is not None and found.status >= 0 and found.seconds <= seconds
         self.measured.append((name, words, found.seconds))
@@ -230,6 +235,15 @@ class Costs:
         """A graph of 256 classes is judged in at most twice what `certify` takes."""
         self.beside_certify("256 classes", self.program, ["verdict"], largest())
 
+    def refusals(self):
+        """All refused events are told, where that is asked for."""
+        for event, number in ((b"delete p\n", b"31"), (b"set o29999.p 1\n", b"46")):
+            text = refused_events(30_000, event, 15_000)
+            name = f"15,000 events refused {number.decode()}"
+            found = self.run(name, ["run", "--unchecked", "1"], text, self.beside(), {"GAMMONFIG_EXPLAIN": "1"})
+            told = found.errors.count(b": warning: event "), found.errors.count(b" refused " + number + b": ")
+            self.count.check(found.status == 0 and told == (15_000, 15_000), lambda: f"{name}: {found}")
+
     def settling(self):
         """A program that has a certificate without steps gets a settling one in at most twice what `certify` takes."""
         for name, count, is_chain in ("64 classes below one another", 64, True), ("256 classes, apart", 256, False):
@@ -257,6 +271,7 @@ def try_all(bench, count, program):
     costs.graphs()
     costs.imports()
     costs.verdicts()
+    costs.refusals()
     costs.settling()
     costs.witnesses()
     return costs.measured

@@ -21,7 +21,7 @@ pub use flaw::Flaw;
 pub use line::{has_tokens, number_behind};
 pub use literals::literal_for;
 pub use meanings::meaning;
-pub use message::{Severity, TextKind, push_flaw};
+pub use message::{Severity, TextKind, TextLine, push_flaw};
 pub use other_text::{OtherPlace, OtherPlaces, PlacesFault, read_places};
 pub use place::TextPlace;
 pub use printed::{Printed, push_printed, push_printed_lines};

@@ -1,6 +1,6 @@
 //! A text of an input, of whose places something is said.
 
-use diagnostics::{Flaw, Severity, Span, TextKind, push_flaw, text_spans};
+use diagnostics::{Flaw, Severity, Span, TextKind, TextLine, push_flaw, text_spans};
 use std::alloc::{AllocError, Global};
 
 /// A text of an input.
@@ -38,6 +38,18 @@ impl<'i> PlacedText<'i> {
     pub fn lines_before(self) -> usize {
         let front = self.input.get(..self.span.begin).unwrap_or(&[]);
         front.iter().filter(|byte| **byte == b'\n').count()
+    }
+
+    /// The line of it that comes after so many, and that has these bytes; `before` is `lines_before`.
+    pub fn line(self, before: usize, after: usize, bytes: &'i [u8]) -> TextLine<'i> {
+        let of_text = after.saturating_add(1);
+        TextLine {
+            kind: self.kind,
+            bytes,
+            before: 0,
+            of_input: before.saturating_add(of_text),
+            of_text,
+        }
     }
 
     /// Adds what is wrong with it, with the place in the input and in the text.

@@ -7,7 +7,7 @@ use crate::placed::{PlacedText, some_text};
 use crate::reports::blame::{Blame, blame_of, needs_program};
 use crate::reports::known::KnownNames;
 use diagnostics::{
-    Flaw, Printed, Severity, TextKind, has_tokens, meaning, number_behind, placed_or_none,
+    Printed, Severity, TextKind, TextLine, has_tokens, meaning, number_behind, placed_or_none,
 };
 use program_flaws::declarations_of;
 use std::alloc::{AllocError, Global};
@@ -99,6 +99,8 @@ fn push_unplaced(
 struct RefusedScript<'a> {
     alloc: Global,
     text: PlacedText<'a>,
+    /// How many lines of the input stand in front of it.
+    lines_before: usize,
     program: Option<Program>,
 }
 
@@ -106,9 +108,7 @@ struct RefusedScript<'a> {
 #[derive(Clone, Copy)]
 struct ReportedEvent<'a> {
     refused: RefusedEvent,
-    line: &'a [u8],
-    /// The byte of the script at which the line begins.
-    at: usize,
+    line: TextLine<'a>,
     /// Whether the part that is wrong is looked for.
     is_guessed: bool,
 }
@@ -129,9 +129,11 @@ impl<'a> RefusedScript<'a> {
         } else {
             None
         };
+        let text = PlacedText::of(alloc, input, TextKind::Script)?;
         Ok(RefusedScript {
             alloc,
-            text: PlacedText::of(alloc, input, TextKind::Script)?,
+            text,
+            lines_before: text.lines_before(),
             program,
         })
     }
@@ -144,9 +146,9 @@ impl<'a> RefusedScript<'a> {
         refused: &[RefusedEvent],
         most: usize,
     ) -> Result<usize, AllocError> {
-        let script = self.text.source();
         let mut known = KnownNames::new(self.alloc)?;
-        let mut left = script;
+        let mut left = self.text.source();
+        let mut passed = 0usize;
         let mut event = 0u64;
         let mut told = 0usize;
         let mut untold = 0usize;
@@ -154,7 +156,8 @@ impl<'a> RefusedScript<'a> {
         while let Some((line, rest)) = split_line(left)
             && let Some((found, later)) = rest_refused.split_first()
         {
-            let at = script.len().saturating_sub(left.len());
+            let after = passed;
+            passed = passed.saturating_add(1);
             left = rest;
             if !has_tokens(self.alloc, line)? {
                 continue;
@@ -177,8 +180,7 @@ impl<'a> RefusedScript<'a> {
             told = told.saturating_add(1);
             let reported = ReportedEvent {
                 refused: *found,
-                line,
-                at,
+                line: self.text.line(self.lines_before, after, line),
                 is_guessed: told <= MOST_GUESSED,
             };
             self.push_refusal(text, reported, &known)?;
@@ -196,33 +198,28 @@ impl<'a> RefusedScript<'a> {
         let ReportedEvent {
             refused: RefusedEvent { event, reason },
             line,
-            at,
             is_guessed,
         } = reported;
-        let tokens = placed_or_none(self.alloc, line)?;
+        let tokens = placed_or_none(self.alloc, line.bytes)?;
         let tokens = tokens.as_slice();
         let Blame { token, advice } = if is_guessed {
             let program = self.program.as_ref();
-            blame_of(self.alloc, reason, line, tokens, known, program)?
+            blame_of(self.alloc, reason, line.bytes, tokens, known, program)?
         } else {
             Blame::whole()
         };
         let about = meaning(reason).unwrap_or("");
         let mut sentence = format!(in self.alloc; "event {event} refused {reason}: {about}")?;
-        let mut inner = 0usize;
+        let mut at = 0usize;
         if let Some(placed) = tokens.get(token) {
-            inner = placed.at;
+            at = placed.at;
             if token > 0 {
-                let part = Printed(line.get(placed.at..placed.end).unwrap_or(&[]));
+                let part = Printed(line.bytes.get(placed.at..placed.end).unwrap_or(&[]));
                 write!(&mut sentence, ": `{part}`")?;
             }
         }
-        let flaw = Flaw {
-            at: at.saturating_add(inner),
-            sentence,
-            advice,
-        };
-        self.text.push(text, Severity::Warning, &flaw)
+        let advice = advice.as_ref().map(|advice| advice.as_str());
+        line.push(text, Severity::Warning, at, sentence.as_str(), advice)
     }
 }
 
