@@ -4,6 +4,7 @@ ghost use Rattle.std.specs.Prelude.{◌≤◌, length, IfOk, IfSome};
 
 use crate::parts::within;
 use crate::unexpected::TokenizedText;
+use basic_types::MOST_PARAMETERS;
 use class_lang::Limits;
 use diagnostics::Flaw;
 use std::alloc::{AllocError, Global};
@@ -279,8 +280,8 @@ fn is_plain_reference(source: TokenizedText, at: usize) -> bool {
     source.is(at, Symbol::Ampersand) && source.is_name(at.saturating_sub(1)) && !is_const
 }
 
-/// The first signature with more than eight types or parameters, or binding with more formal sources. Those of a certificate
-/// come after a dot.
+/// The first signature with more types or parameters than there may be, or binding with more formal sources. Those of a
+/// certificate come after a dot.
 pub fn parameters_flaw(
     alloc: Global,
     source: TokenizedText,
@@ -316,14 +317,14 @@ fn is_of_binding(source: TokenizedText, at: usize) -> bool {
     )
 }
 
-/// A list that begins with this `(`, and has more than eight parts.
+/// A list that begins with this `(`, and has more parts than there may be parameters.
 fn long_list(alloc: Global, source: TokenizedText, at: usize) -> Result<Option<Flaw>, AllocError> {
     let list = List::of(source, at);
-    let Some(ninth) = list.ninth else {
+    let Some(excess) = list.excess else {
         return Ok(None);
     };
     let sentence = long_sentence(alloc, source, at, list.total)?;
-    Ok(Some(Flaw::with_advice(alloc, source.place(ninth), sentence, None)?))
+    Ok(Some(Flaw::with_advice(alloc, source.place(excess), sentence, None)?))
 }
 
 /// That the list which begins with this `(` has so many parts.
@@ -333,12 +334,13 @@ fn long_sentence(
     at: usize,
     total: usize,
 ) -> Result<String, AllocError> {
+    let most = MOST_PARAMETERS;
     if is_of_binding(source, at) {
         let name = source.shown(at.saturating_sub(4));
-        format!(in alloc; "binding `{name}` has {total} formal sources: at most 8 may be")
+        format!(in alloc; "binding `{name}` has {total} formal sources: at most {most} may be")
     } else {
         let name = source.shown(at.saturating_sub(1));
-        format!(in alloc; "`{name}` has {total} parameters: at most 8 may be")
+        format!(in alloc; "`{name}` has {total} parameters: at most {most} may be")
     }
 }
 
@@ -347,8 +349,8 @@ fn long_sentence(
 struct List {
     /// How many there are.
     total: usize,
-    /// The first token of the ninth one.
-    ninth: Option<usize>,
+    /// The first token of the first one that is one too many.
+    excess: Option<usize>,
 }
 
 impl List {
@@ -356,7 +358,7 @@ impl List {
     fn of(source: TokenizedText, at: usize) -> List {
         let mut list = List {
             total: 1,
-            ninth: None,
+            excess: None,
         };
         for inner in at..source.tokens.len() {
             if source.is(inner, Symbol::Close) {
@@ -364,8 +366,8 @@ impl List {
             }
             if source.is(inner, Symbol::Comma) {
                 list.total = list.total.saturating_add(1);
-                if list.total == 9 {
-                    list.ninth = Some(inner.saturating_add(1));
+                if list.total > MOST_PARAMETERS && list.excess.is_none() {
+                    list.excess = Some(inner.saturating_add(1));
                 }
             }
         }
