@@ -3,6 +3,8 @@ from __future__ import annotations
 
 from typing import Callable
 
+from .aggregates import Aggregates
+from .classes import SOLE
 from .comparing import Comparing
 from .conditional import Conditional
 from .context import Context
@@ -15,7 +17,6 @@ from .templates import has_types
 
 # What Q_OBJECT declares and defines.
 OF_MOC = {'tr', 'trUtf8', 'qt_metacall', 'qt_metacast', 'qt_static_metacall', 'metaObject', 'qt_check_for_QGADGET_macro'}
-SOLE_OWNERS = ('unique_ptr', 'QScopedPointer')
 
 
 class Bodies:
@@ -23,7 +24,7 @@ class Bodies:
         self.context = context
         self.comparing = Comparing(context)
         self.conditional = Conditional(context, self)
-        self.implicit = Implicit(context)
+        self.implicit, self.aggregates = Implicit(context), Aggregates(context)
         self.locals: list[tuple[str, Cursor, str]] = []
         self.released: set[str] = set()
         # The instances of generic lambdas.
@@ -35,7 +36,7 @@ class Bodies:
             K.CALL_EXPR: context.calls.call, K.LAMBDA_EXPR: self._loose_lambda, K.VAR_DECL: self.variable, K.CXX_NEW_EXPR: self.new,
             K.CXX_DELETE_EXPR: self._delete, K.RETURN_STMT: self._return, K.CXX_FOR_RANGE_STMT: self._for_each, K.FOR_STMT: loop,
             K.WHILE_STMT: loop, K.DO_STMT: loop, K.SWITCH_STMT: self.conditional.switch, K.IF_STMT: self.conditional.branch,
-            K.CONDITIONAL_OPERATOR: self.conditional.choice, K.COMPOUND_STMT: self.conditional.block}
+            K.INIT_LIST_EXPR: self.aggregates.initial, K.CONDITIONAL_OPERATOR: self.conditional.choice, K.COMPOUND_STMT: self.conditional.block}
 
     # Declarations
 
@@ -100,6 +101,8 @@ class Bodies:
             site = context.site(key, cursor, cls, cursor.spelling)
             context.facts.owns.append((whole, site, context.place(cursor)))
         elif context.classes.owns(cursor.type):
+            if context.classes.kept.of(cursor.type) is not None:
+                context.flow(key, context.site(key, cursor, cls, cursor.spelling))
             context.facts.owns.append((whole, Value('variable', key, cls), context.place(cursor)))
 
     # Functions
@@ -156,7 +159,7 @@ class Bodies:
         """Smart pointers that a function takes by value are as locals of it."""
         classes = self.context.classes
         for formal in formals:
-            if formal.kind == K.PARM_DECL and formal.type.get_canonical().kind == T.RECORD and classes.holder(formal.type) in SOLE_OWNERS:
+            if formal.kind == K.PARM_DECL and formal.type.get_canonical().kind == T.RECORD and classes.holder(formal.type) in SOLE:
                 cls, key = classes.of(formal.type), self.context.variable_key(formal)
                 if cls and key is not None:
                     self.locals.append((key, formal, cls))
@@ -189,6 +192,7 @@ class Bodies:
         place = context.declared(cursor)
         shown = f'lambda in {outer.shown}' if outer else 'lambda'
         formals = [k for k in cursor.get_children() if k.kind == K.PARM_DECL]
+        self._captured(cursor)
         function = Function(key, f'lambda_{place.line}', shown, outer.cls if outer else context.outer, 'lambda', place, cursor.extent.end.line,
                             context.classes.parameters(formals))
         context.facts.functions[key] = function
@@ -197,6 +201,15 @@ class Bodies:
         else:
             self._lambda_body(function, cursor, formals)
         return key
+
+    def _captured(self, cursor: Cursor) -> None:
+        """What captures with an initialiser call: libclang tells the parts of each, not the whole."""
+        for part in expressions(cursor):
+            called = part.referenced if part.kind == K.MEMBER_REF_EXPR else None
+            if called is not None and called.kind == K.CXX_METHOD and self.context.is_inside(called):
+                on = expressions(part)
+                self.context.calls.to_function(part, called, self.context.values.of(on[0]) if on else self.context.this, [])
+            self.walk(part)
 
     def _all_closures(self) -> None:
         """A generic lambda does what its instances do. One in another is met as that one's instance is read."""
@@ -252,21 +265,29 @@ class Bodies:
                 if cls:
                     context.flow(key, context.values.of(first), cls)
                 self.walk(first)
-        if cls and context.function is not None and context.classes.holder(cursor.type) in SOLE_OWNERS and str(key).startswith('V:'):
-            self.locals.append((str(key), cursor, cls))
+        if cls and str(key).startswith('V:'):
+            self._local_holder(cursor, str(key), cls)
+
+    def _local_holder(self, cursor: Cursor, key: str, cls: str) -> None:
+        """A local variable that holds objects: what it still owns at the end of the function ends with it."""
+        context = self.context
+        if context.classes.kept.of(cursor.type) is not None:
+            context.flow(key, context.site(key, cursor, cls, cursor.spelling))
+        if context.function is not None and context.classes.ends_with_scope(cursor.type):
+            self.locals.append((key, cursor, cls))
 
     def _local_object(self, cursor: Cursor, key: str, cls: str, first: Cursor | None) -> None:
         context = self.context
         if first is None:
             return
-        if strip(first).kind != K.CALL_EXPR:
+        if strip(first).kind not in (K.CALL_EXPR, K.INIT_LIST_EXPR):
             self.walk(first)
             return
         site = context.site(key, cursor, cls, cursor.spelling)
         context.calls.initial(first, site)
         function = context.function
-        is_local = key.startswith('V:') and cursor.storage_class != cindex.StorageClass.STATIC
-        dies = context.classes.is_object(cls) or context.classes.has_destructor(cls)
+        is_local = key.startswith('V:')
+        dies = context.classes.is_object(cls) or context.classes.kept.has_end(cursor.type.get_canonical().get_declaration())
         if function is not None and is_local and dies and function.name != 'main':
             context.add('scope', cursor, site).cls = cls
 
@@ -288,6 +309,8 @@ class Bodies:
                 self.walk(inner)
             elif inner.kind in RECORDS:
                 self.declaration(inner)
+            elif inner.kind == K.UNEXPOSED_DECL:  # `auto [one, other] = ..`
+                self.inside(inner)
 
     def _loose_lambda(self, cursor: Cursor) -> None:
         key = self.lambda_key(cursor)

@@ -5,6 +5,7 @@ import re
 
 from .classes import BINDABLE, CONTAINERS, SMART
 from .context import Context
+from .creating import Creating, makes
 from .functors import Functors
 from .holders import Holders
 from .keeping import OF_VALUES, Keeping
@@ -26,6 +27,7 @@ class Calls:
         self.context = context
         self.holders, self.keeping, self.possessing = Holders(context), Keeping(context), Possessing(context)
         self.special, self.parting, self.functors = Special(context), Parting(context), Functors(context)
+        self.creating = Creating(context)
 
     # The parts of a call
 
@@ -99,7 +101,16 @@ class Calls:
             statement.on = Value('free')
         statement.terms = context.values.terms(given, context.classes.parameters(list(called.get_arguments())))
         self.pass_arguments(called, given, call)
+        self._by_default(called, given)
         return statement
+
+    def _by_default(self, called: Cursor, given: list[Cursor]) -> None:
+        """Arguments that aren't written: what their defaults call."""
+        for declared in (called, called.canonical) if called != called.canonical else (called,):
+            for at, formal in enumerate(declared.get_arguments()):
+                if at >= len(given) or not is_written(given[at]):
+                    for default in expressions(formal):
+                        self.context.bodies.walk(default)
 
     def _through_variable(self, call: Cursor) -> None:
         called = call.referenced
@@ -146,8 +157,16 @@ class Calls:
         else:
             if called.spelling in ('move', 'forward') and given:
                 self.context.bodies.release(given[0])
+            self._made(call, called.spelling, '', given)
+            self.holders.by_function(call, called.spelling, given)
             self.functors.to_library(call, called.spelling, given)
         self.rest(call)
+
+    def _made(self, call: Cursor, name: str, parent: str, given: list[Cursor]) -> None:
+        """A function of a library may make an object, whose constructor runs."""
+        made = self.context.values.of(call) if makes(name, parent) else NONE
+        if made.kind == 'site':
+            self.creating.by_library(call, made, self.context.classes.record(call.type), given)
 
     def _member(self, call: Cursor) -> None:
         called, given = call.referenced, list(call.get_arguments())
@@ -158,6 +177,7 @@ class Calls:
         if name == 'operator()' and self._call_operator(call, on, inside, parent):
             self.rest(call)
         elif parent in SMART | CONTAINERS:
+            self._made(call, name, parent, given)
             self.holders.call(call, parent, name, on, given)
             self.rest(call)
         elif not inside and ('terator' in parent or parent in PLAIN):
@@ -311,10 +331,10 @@ class Calls:
             self.to_function(call, called, on, given).virtual = False
             self.functors.to_own(call, called, given)
             self.note_construction(context.function_key(called), on, given)
-        self._own_by_parent(call, called, on, given)
+        self.own_by_parent(call, called, on, given)
         self.special.constructed(call, context.facts.classes[cls].name, inside, on, given)
 
-    def _own_by_parent(self, call: Cursor, called: Cursor, on: Value, given: list[Cursor]) -> None:
+    def own_by_parent(self, call: Cursor, called: Cursor, on: Value, given: list[Cursor]) -> None:
         """A parent among the arguments of a constructor owns its object."""
         context, inside, owner = self.context, self.context.is_inside(called), NONE
         formals = list(called.get_arguments())
@@ -343,7 +363,7 @@ class Calls:
             if call.kind == K.CALL_EXPR and call.referenced is not None and call.referenced.kind == K.CONSTRUCTOR:
                 called, given, on = self.declared_constructor(call.referenced), list(call.get_arguments()), self.context.values.made(made)
                 if called.semantic_parent.kind in RECORDS and self.context.classes.of(made.type):
-                    self._own_by_parent(call, called, on, given)
+                    self.own_by_parent(call, called, on, given)
                 if self.context.is_inside(called):
                     self.pass_arguments(called, given)
                     self.note_construction(self.context.function_key(called), on, given)

@@ -4,6 +4,7 @@ from __future__ import annotations
 import re
 
 from .context import Context, sort_of
+from .kept import Kept
 from .libclang import RECORDS, CxxType, Cursor, K, T, template_of
 from .model import Class, Field, Method, Parameter
 
@@ -12,11 +13,15 @@ SMART = {'QPointer', 'QScopedPointer', 'QSharedPointer', 'QWeakPointer', 'unique
 OWNING = SMART - {'QPointer', 'QWeakPointer', 'weak_ptr', 'QPropertyAlias', 'reference_wrapper'}
 # Containers of these own what they hold.
 OF_OWNERS = re.compile(r'(unique_ptr|shared_ptr|QSharedPointer|QScopedPointer)<')
+SOLE = ('unique_ptr', 'QScopedPointer')
+OF_SOLE = re.compile(r'\b(unique_ptr|QScopedPointer)<')
 # Items of scenes and views.
 ITEM = re.compile(r'Q(Graphics|Tree|List|Table|Standard)\w*Item$')
 CONTAINERS = {'QList', 'QVector', 'QMap', 'QHash', 'QSet', 'QMultiMap', 'QMultiHash', 'QStack', 'QQueue', 'vector', 'list', 'map', 'set',
               'deque', 'unordered_map', 'unordered_set', 'multimap', 'pair', 'array', 'optional', 'QPair', 'QVarLengthArray', 'QCache',
               'initializer_list', 'tuple', 'variant'}
+# What stands for no object in a container.
+NOTHING = ('nullopt_t', 'monostate')
 BINDABLE = ('QObjectBindableProperty', 'QProperty', 'QObjectCompatProperty', 'QObjectComputedProperty')
 MARKS = {'qt_signal': 'signal', 'qt_slot': 'slot', 'qt_invokable': 'invokable'}
 SCOPES = RECORDS + (K.NAMESPACE, K.CLASS_TEMPLATE)
@@ -32,12 +37,17 @@ class Classes:
         # The class of an instance, or of a class in one, the instance, and what it is one of.
         self.patterns: list[tuple[str, Cursor, Cursor]] = []
         self._types: dict[str, tuple[str, bool]] = {}
+        self.kept = Kept(self)
 
     # Types
 
     def of(self, cxx_type: CxxType) -> str:
         """The class that a type leads to, through pointers, references, smart pointers and containers; or none."""
         return self._known(cxx_type)[0]
+
+    def record(self, cxx_type: CxxType) -> Cursor:
+        """The declaration of the class that a smart pointer is of."""
+        return cxx_type.get_canonical().get_template_argument_type(0).get_canonical().get_declaration()
 
     def only(self, cxx_type: CxxType) -> str:
         """The class that all is of to which a type points, or none where that is several or it doesn't point."""
@@ -63,7 +73,7 @@ class Classes:
                 kind = kind.element_type.get_canonical()
                 continue
             declaration = kind.get_declaration()
-            if declaration.kind not in RECORDS:
+            if declaration.kind not in RECORDS or declaration.spelling in NOTHING:
                 return '', False
             count, name = kind.get_num_template_arguments(), declaration.spelling
             if name in SMART and count > 0:
@@ -71,7 +81,8 @@ class Classes:
             elif name in CONTAINERS and count > 0:
                 fit = self._elements([kind.get_template_argument_type(at).get_canonical() for at in range(count)])
                 if not fit:
-                    return '', False
+                    record = self.kept.among(kind)
+                    return (self.note(record), False) if record is not None else ('', False)
                 kind, is_only = fit[-1], is_only and len(fit) == 1
             else:
                 return self.note(declaration), is_only and points
@@ -91,6 +102,10 @@ class Classes:
         name = kind.get_declaration().spelling if kind.kind == T.RECORD else ''
         return bool(kind.kind == T.RECORD and name not in SMART | CONTAINERS and 'terator' not in name)
 
+    @staticmethod
+    def is_container(name: str) -> bool:
+        return name in CONTAINERS
+
     def holder(self, cxx_type: CxxType) -> str:
         """The name of the smart pointer or container that a type is."""
         kind = cxx_type.get_canonical()
@@ -101,7 +116,14 @@ class Classes:
     def owns(self, cxx_type: CxxType) -> bool:
         """Whether a variable of the type owns the objects to which it leads: an owning pointer, or a container of such."""
         holder = self.holder(cxx_type)
-        return holder in OWNING or holder in CONTAINERS and bool(OF_OWNERS.search(cxx_type.get_canonical().spelling))
+        return holder in OWNING or holder in CONTAINERS and (bool(OF_OWNERS.search(cxx_type.get_canonical().spelling))
+                                                             or self.kept.of(cxx_type) is not None)
+
+    def ends_with_scope(self, cxx_type: CxxType) -> bool:
+        """Whether what a local variable of the type holds ends with it, unless that is given away: what nobody else owns."""
+        kind = cxx_type.get_canonical()
+        holder = self.holder(kind) if kind.kind == T.RECORD else ''
+        return holder in SOLE or holder in CONTAINERS and (bool(OF_SOLE.search(kind.spelling)) or self.kept.of(kind) is not None)
 
     # Classes
 
@@ -121,11 +143,6 @@ class Classes:
     def is_handed_over(self, key: str) -> bool:
         """Whether objects of a class have owners: those of QObject, and items of scenes and views."""
         return self.is_object(key) or bool(ITEM.match(self.found[key].name))
-
-    def has_destructor(self, key: str) -> bool:
-        """Whether a class of the application has a destructor of its own, which may do something."""
-        cls = self.found.get(key)
-        return cls is not None and cls.inside and any(m.kind == 'destructor' for m in cls.methods.values())
 
     def note(self, declaration: Cursor) -> str:
         declaration = declaration.canonical

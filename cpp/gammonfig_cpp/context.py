@@ -7,7 +7,7 @@ from contextlib import contextmanager
 from functools import cache
 from typing import TYPE_CHECKING, Iterator
 
-from .libclang import FUNCTIONS, CxxType, K, Cursor, T, is_instance, template_of
+from .libclang import FUNCTIONS, CxxType, K, Cursor, T, cindex, is_instance, template_of
 from .model import NONE, Condition, Facts, Function, Named, Place, Site, Statement, Unknown, Value
 from .units import is_generated, real
 
@@ -199,7 +199,8 @@ class Context:
             parent = declaration.semantic_parent
             if parent is not None and parent.kind in FUNCTIONS + (K.LAMBDA_EXPR,):
                 file = declaration.location.file
-                return self.own(f'V:{self.path(file.name)[0] if file else ""}:{declaration.location.offset}')
+                kept = declaration.storage_class == cindex.StorageClass.STATIC
+                return self.own(f'{"S" if kept else "V"}:{self.path(file.name)[0] if file else ""}:{declaration.location.offset}')
             return str(declaration.canonical.get_usr())
         return None
 

@@ -234,7 +234,8 @@ class Effects:
                 site = self.whole.sites.get(one.key) if one.kind == 'site' else None
                 if one.kind == 'null':
                     continue
-                if site is None or site.place.file != function.place.file or not function.place.line <= site.place.line <= function.end:
+                if site is None or site.place.file != function.place.file or site.place.line > function.end \
+                        or site.place[1:3] < function.place[1:3]:
                     return False
         return True
 

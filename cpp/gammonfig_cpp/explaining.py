@@ -62,7 +62,7 @@ class Explaining:
         if key.startswith('R:'):
             function = self.whole.functions.get(key[2:])
             return f'what {function.shown if function else key[2:]} returns'
-        if key.startswith('V:'):
+        if key.startswith(('V:', 'S:')):
             return f'a local variable in {self.places.relative(key[2:].rsplit(":", 1)[0])}'
         return f'{key.rsplit("@", 1)[-1]} of {key.split("@S@", 1)[-1].split("@FI@")[0]}'
 

@@ -11,6 +11,11 @@ DEFERRED = {'singleShot', 'run', 'create', 'mapped', 'map', 'filtered', 'filter'
             'runOnThread'}
 
 
+# Functions that call a member function which they are handed, of the object that they are handed, or of each.
+CALLING_ONE = {'invoke', 'invoke_r', 'call_once'}
+CALLING_MEMBERS = CALLING_ONE | {'mem_fn', 'for_each', 'for_each_n', 'transform', 'any_of', 'all_of', 'none_of', 'find_if', 'count_if'}
+
+
 class Functors:
     def __init__(self, context: Context) -> None:
         self.context = context
@@ -19,7 +24,7 @@ class Functors:
         """What is handed to a function of a library: called at once as far as is known, unless it is known to be later; whether it is."""
         is_later = False
         for argument in given:
-            named, on = self._handed(argument, given)
+            named, on = self._handed(argument, given, name)
             if named is None or named.kind == 'method' and on == NONE:
                 continue
             if name in DEFERRED:
@@ -28,6 +33,10 @@ class Functors:
                 is_later = True
             elif named.kind == 'lambda':
                 self.context.calls.inline(call, named.key)
+            elif named.kind == 'method' and name in CALLING_MEMBERS:
+                statement = self.context.add('invoke', call, on)
+                statement.named, statement.cls = named, named.cls
+                continue
             elif named.kind != 'method':
                 statement = self.context.add('call', call, self.context.this)
                 statement.named, statement.inline, statement.name = named, True, 'function object'
@@ -37,7 +46,7 @@ class Functors:
                 self.context.note('functor', call, f'given to {name}, taken to be called at once: {self.context.text(call, 50)}')
         return is_later
 
-    def _handed(self, argument: Cursor, given: list[Cursor]) -> tuple[Named | None, Value]:
+    def _handed(self, argument: Cursor, given: list[Cursor], name: str) -> tuple[Named | None, Value]:
         """The function that an argument names, and the object that a member function is to be called on."""
         stripped = bare(argument)
         is_holder = stripped.kind == K.CALL_EXPR and stripped.referenced is not None and stripped.referenced.kind == K.CONSTRUCTOR
@@ -52,9 +61,17 @@ class Functors:
             return self._held(argument), NONE
         if stripped.kind == K.UNARY_OPERATOR and self.context.callees.is_callable(argument):
             named = self.context.callees.of(argument)
-            objects = [a for a in given if is_written(a) and self.context.connects.is_object(a)]
-            return (named, self.context.values.of(objects[0])) if named.kind == 'method' and objects else (None, NONE)
+            return (named, self._object(named, given, name)) if named.kind == 'method' else (None, NONE)
         return None, NONE
+
+    def _object(self, named: Named, given: list[Cursor], name: str) -> Value:
+        """The object of which a function of a library calls a member function; in an algorithm any of the class."""
+        context, written = self.context, [argument for argument in given if is_written(argument)]
+        objects = [a for a in written if context.connects.is_object(a)]
+        if name in CALLING_MEMBERS:
+            objects = [a for a in written if context.classes.of(a.type)] if name in CALLING_ONE else []
+            return context.values.of(objects[0]) if objects else Value('class', cls=named.cls)
+        return context.values.of(objects[0]) if objects else NONE
 
     def _held(self, argument: Cursor) -> Named | None:
         """A function of the application, or a variable that holds one."""

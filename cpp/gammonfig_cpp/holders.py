@@ -3,7 +3,6 @@ from __future__ import annotations
 
 import re
 
-from .classes import OF_OWNERS
 from .context import Context
 from .libclang import NAMES, VARIABLES, Cursor, K, T, expressions, is_written, strip
 from .model import SHARED_LATER, SHARED_ONCE
@@ -33,9 +32,12 @@ class Holders:
         first = function is not None and function.kind == 'constructor' and (name == 'operator=' or name == 'reset' and self._is_empty(on))
         if self._destroys(holder, name, on) and not first:
             self._destroy(call, on)
-        if given and (name in PUTTING or name.startswith('operator<<')):
+        is_made = self.context.calls.creating.emplaced(call, holder, name, on)
+        if given and not is_made and (name in PUTTING or name.startswith('operator<<')):
             self.fill(strip(on).referenced, given)
             self._put(on, given[:1] if name == 'reset' else given)
+            if name == 'swap':
+                self._put(given[0], [on])
         if name == 'reset':
             self.note_deleter(given)
 
@@ -61,7 +63,21 @@ class Holders:
             return True
         if holder in ('QSharedPointer', 'shared_ptr', 'unique_ptr', 'QScopedPointer'):
             return name == 'clear'
-        return name in TAKING_OUT and bool(OF_OWNERS.search(on.type.get_canonical().spelling))
+        ends = name in TAKING_OUT or name == 'operator=' and not self._is_local(on) or name == 'emplace' and holder in ('optional', 'variant')
+        return ends and self.context.classes.owns(on.type)
+
+    @staticmethod
+    def _is_local(on: Cursor) -> bool:
+        named = strip(on)
+        return named.kind == K.DECL_REF_EXPR and named.referenced is not None and named.referenced.kind in (K.VAR_DECL, K.PARM_DECL)
+
+    def by_function(self, call: Cursor, name: str, given: list[Cursor]) -> None:
+        """A function of a library takes something out of a container that it is handed, or has two variables change places."""
+        if name in ('erase', 'erase_if') and given and self.context.classes.owns(given[0].type):
+            self._destroy(call, given[0])
+        elif name in ('swap', 'qSwap') and len(given) == 2:
+            self.context.bodies.assign(given[0], given[1])
+            self.context.bodies.assign(given[1], given[0])
 
     def _destroy(self, call: Cursor, on: Cursor) -> None:
         cls = self.context.classes.of(on.type)

@@ -43,6 +43,10 @@ class Implicit:
         named = base.referenced
         return str(named.canonical.get_usr()) if named is not None else ''
 
+    def without_arguments(self, record: Cursor, on: Value, at: Cursor) -> None:
+        """An object is made without arguments."""
+        self._default(record, on, at, 0)
+
     def _default(self, record: Cursor, on: Value, at: Cursor, depth: int) -> None:
         """The constructor without arguments of a class of the application; of one that has none, those of its own parts."""
         record = record.get_definition() or record

@@ -14,9 +14,9 @@ from .precompiled import stamp
 from .units import Unit
 
 # The modules that facts depend on.
-READERS = ('apart', 'bodies', 'calls', 'classes', 'comparing', 'conditional', 'connects', 'context', 'ending', 'facts', 'functors', 'holders',
-           'implicit', 'instances', 'keeping', 'libclang', 'libraries', 'model', 'naming_callees', 'packing', 'parting', 'possessing', 'precompiled',
-           'qtmodel', 'quick', 'sharing', 'special', 'store', 'templates', 'units', 'values')
+READERS = ('aggregates', 'apart', 'bodies', 'calls', 'classes', 'comparing', 'conditional', 'connects', 'context', 'creating', 'ending',
+           'facts', 'functors', 'holders', 'implicit', 'instances', 'keeping', 'kept', 'libclang', 'libraries', 'model', 'naming_callees',
+           'packing', 'parting', 'possessing', 'precompiled', 'qtmodel', 'quick', 'sharing', 'special', 'store', 'templates', 'units', 'values')
 BROKEN = (OSError, EOFError, pickle.UnpicklingError, AttributeError, ValueError, ImportError)
 
 

@@ -6,6 +6,7 @@ from collections.abc import Iterator
 
 from .classes import CONTAINERS, SMART
 from .context import Context, sort_of
+from .creating import makes
 from .libclang import CASTS, NAMES, RECORDS, REFERENCES, VARIABLES, Cursor, K, T, bare, cindex, expressions, is_written, strip
 from .model import NONE, NULL, UNKNOWN, Parameter, Term, Value
 from .qtmodel import GIVING
@@ -138,7 +139,7 @@ class Values:
             if name in HANDING_ON:
                 return self.of(given[0], depth + 1)
         parent = called.semantic_parent
-        if not inside and (name.startswith(('make_unique', 'make_shared')) or name == 'create' and parent.spelling == 'QSharedPointer'):
+        if not inside and makes(name, parent.spelling if parent is not None else ''):
             made = self.made_by_call(cursor, cls)
             if self.context.facts.classes[cls].inside:
                 self.context.calls.note_construction('', made, given)

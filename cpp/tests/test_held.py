@@ -33,7 +33,8 @@ def test_a_shared_pointer_that_is_given_up_may_end_its_object() -> None:
     found = case('shared')
     for slot, role in (('endShared', 'm_shared'), ('clearShared', 'm_shared'), ('replaceShared', 'm_shared'), ('endStandard', 'm_standard'),
                        ('emptyStandard', 'm_standard'), ('nullStandard', 'm_standard'), ('replaceStandard', 'm_standard'), ('endEach', 'm_many')):
-        assert found.body(slot) == [f'delete this.to_Coin_{role};', f'call this.to_Coin_{role}.Coin_gone();'], slot
+        made = [f'call this.to_Coin_{role}.Coin_made("");'] if slot.startswith('replace') else []
+        assert found.body(slot) == [f'delete this.to_Coin_{role};', f'call this.to_Coin_{role}.Coin_gone();', *made], slot
     assert 'slot forgetWeak' not in found.text
 
 

@@ -152,7 +152,7 @@ def test_what_is_no_deletion() -> None:
     found = case('deletions')
     assert found.body('later_') == ['emit posted_28();'], 'a later deletion brings about nothing at once'
     assert 'wire Machine posted_28() -> Functions delete_Part() queued;' in found.wires()
-    assert 'slot given(' not in found.text, 'what is returned is given away'
+    assert found.body('given') == ['call this.to_Part_made.Part_made("");'], 'what is returned is given away'
     assert not any(s.startswith('delete') for s in found.body('fresh')), 'what the function made itself is no object of others'
 
 
@@ -180,7 +180,7 @@ def test_what_ends_without_a_statement() -> None:
         'members and children end with their owner'
     assert found.body('guards') == ['call this.to_Guard.Guard_made("");', 'call this.to_Guard.Guard_gone();'], 'a local leaves its scope'
     assert found.body('sinks') == ['delete this.to_Leaf_39;', 'call this.to_Leaf_39.Leaf_gone();'], 'an argument that is owned ends'
-    assert 'Leaf_39' not in ' '.join(found.body('hands')), 'what is handed on is given away'
+    assert 'Leaf_39.Leaf_gone' not in ' '.join(found.body('hands')), 'what is handed on is given away'
 
 
 def test_what_the_event_loop_deletes() -> None:
