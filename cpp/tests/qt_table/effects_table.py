@@ -9,7 +9,7 @@ BARE = ["modal", "silent"]
 # What stands for a class: what a delegate makes to edit an item with.
 EDITOR = "editor"
 # What a function needs that the test program hasn't got, where it can't be called, or not in the state in which it does what its line says.
-NEEDS = {"database", "peer", "person", "screen", "thread"}
+NEEDS = {"database", "peer", "person", "receiver", "screen", "thread"}
 
 
 class BadTable(Exception):
