@@ -9,7 +9,7 @@ from .creating import Creating, makes
 from .functors import Functors
 from .holders import Holders
 from .keeping import OF_VALUES, Keeping
-from .libclang import FUNCTIONS, NAMES, RECORDS, VARIABLES, Cursor, K, T, expressions, is_written, strip
+from .libclang import FUNCTIONS, NAMES, RECORDS, VARIABLES, Cursor, K, T, bare, expressions, is_closure, is_written, strip
 from .model import NONE, Condition, Construct, Forward, Named, Statement, Value
 from .parting import Parting
 from .possessing import Possessing
@@ -219,6 +219,9 @@ class Calls:
         key = self.keeping.variable(on) if on is not None else None
         if key in self.context.lambdas:
             self.inline(call, self.context.lambdas[str(key)])
+        elif inside and on is not None and key is not None and is_closure(strip(on).type):
+            self._held(call, key, 'function object')
+            return True
         elif not inside and parent not in OF_VALUES and not re.match(r'Q(Non)?(Const)?Overload', parent):
             self._held(call, key, 'function object')
         return not inside
@@ -291,8 +294,8 @@ class Calls:
         if callees.is_callable(argument):
             named = callees.of(argument)
             return named if named.kind != 'unknown' else None
-        plain = strip(argument).kind in (K.DECL_REF_EXPR, K.CALL_EXPR, K.UNARY_OPERATOR)
-        if plain and not self.context.classes.of(argument.type):
+        plain, handed = strip(argument).kind in (K.DECL_REF_EXPR, K.CALL_EXPR, K.UNARY_OPERATOR), bare(argument)
+        if plain and (not self.context.classes.of(argument.type) or is_closure(handed.type) and handed.kind == K.DECL_REF_EXPR):
             named = callees.of(argument)
             return named if named.kind in ('parameter', 'lambda', 'method', 'text') else None
         return None

@@ -105,6 +105,12 @@ def is_of_closure(cursor: Cursor) -> bool:
     return bool(cursor.spelling == 'operator()' and parent.kind == K.CLASS_DECL and (not parent.spelling or '(lambda at' in parent.spelling))
 
 
+def is_closure(cxx_type: CxxType) -> bool:
+    """Whether a type is that of a lambda."""
+    declaration = cxx_type.get_canonical().get_declaration()
+    return bool(declaration.kind == K.CLASS_DECL and (not declaration.spelling or '(lambda at' in declaration.spelling))
+
+
 def is_written(cursor: Cursor) -> bool:
     """Whether an argument stands in the text: a default one doesn't."""
     return bool(cursor.location.line or strip(cursor).location.line)

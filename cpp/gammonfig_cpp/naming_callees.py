@@ -2,7 +2,7 @@
 from __future__ import annotations
 
 from .context import Context
-from .libclang import NAMES, RECORDS, VARIABLES, Cursor, K, first_text, strip
+from .libclang import NAMES, RECORDS, VARIABLES, Cursor, K, T, bare, first_text, is_closure, strip
 from .model import Named
 
 BINDERS = ('bind', 'bind_front', 'mem_fn')
@@ -16,6 +16,8 @@ class Callees:
         self.context = context
 
     def of(self, cursor: Cursor) -> Named:
+        handed = bare(cursor)
+        cursor = handed if handed.kind == K.DECL_REF_EXPR else cursor
         stripped = strip(cursor)
         if stripped.kind == K.LAMBDA_EXPR:
             return Named('lambda', self.context.bodies.lambda_key(stripped))
@@ -32,7 +34,7 @@ class Callees:
             found = self._one(k, cursor, stripped)
             if found is not None:
                 return found
-        return self.unknown(cursor)
+        return self._object(handed) or self.unknown(cursor)
 
     def unknown(self, cursor: Cursor) -> Named:
         return Named('unknown', name=self.context.text(cursor))
@@ -80,11 +82,27 @@ class Callees:
             return Named('lambda', self.context.lambdas[key])
         if key in self.context.pointers:
             return self.context.pointers[key]
-        if named.kind == K.PARM_DECL and k.kind == K.DECL_REF_EXPR and not self.context.classes.of(named.type):
+        if named.kind == K.PARM_DECL and k.kind == K.DECL_REF_EXPR and self.holds(named):
             return Named('parameter', key)
         if named.kind == K.FIELD_DECL and not self.context.classes.of(named.type):
             return Named('parameter', key)
         return None
+
+    def holds(self, parameter: Cursor) -> bool:
+        """Whether a parameter holds a function, as far as its type says: of a template's it may be a lambda."""
+        kind = parameter.type.get_canonical()
+        kind = kind.get_pointee() if kind.kind in (T.LVALUEREFERENCE, T.RVALUEREFERENCE) else kind
+        return is_closure(kind) or not self.context.classes.of(parameter.type)
+
+    def _object(self, cursor: Cursor) -> Named | None:
+        """An object of a class of the application that is called as a function."""
+        record = cursor.type.get_canonical().get_declaration()
+        if record.kind not in RECORDS or is_closure(cursor.type) or not self.context.is_inside(record):
+            return None
+        called = [k for k in (record.get_definition() or record).get_children() if k.kind == K.CXX_METHOD and k.spelling == 'operator()']
+        if len(called) != 1:
+            return None
+        return Named('bound', self.context.function_key(called[0]), self.context.classes.note(record), called[0].spelling, self.context.values.of(cursor))
 
     def is_callable(self, cursor: Cursor) -> bool:
         """Whether an argument looks like one that names something to be called."""
